@@ -1,1 +1,6 @@
+//! The ring of tokens.
 #![tactic(auto)]
+
+mod token;
+
+pub use token::Token;
