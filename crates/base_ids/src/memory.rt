@@ -1,0 +1,20 @@
+// The answer of a call that could not get memory.
+use std::alloc::{AllocError, AllocFailed};
+use thiserror::Error;
+
+/// Memory was asked for and refused. What the call was to change is as before it.
+#[derive(Clone, Copy, Debug, PartialEq, Eq, Error)]
+#[error("out of memory")]
+pub struct NoMemory;
+
+impl From<AllocError> for NoMemory {
+    fn from(_error: AllocError) -> NoMemory {
+        NoMemory
+    }
+}
+
+impl<T: Drop> From<AllocFailed<T>> for NoMemory {
+    fn from(_refused: AllocFailed<T>) -> NoMemory {
+        NoMemory
+    }
+}

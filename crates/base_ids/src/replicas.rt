@@ -1,0 +1,58 @@
+// The replicas of a tablet, in order.
+ghost use Rattle.std.specs.Prelude.{◌≡◌, ◌≤◌, ◌<◌, length, slice_set, IfOk, OnOk};
+
+use crate::ids::Replica;
+use crate::memory::NoMemory;
+use std::alloc::Global;
+use std::marker::Model;
+
+/// A list of at most 9 replicas, in order: the 8 of a tablet, and one that is pending.
+#[derive(Debug, Drop)]
+pub struct ReplicaList {
+    items: Vec<Replica>,
+}
+
+impl Model for ReplicaList {
+    ghost use Rattle.std.specs.Prelude.{List, length, ◌≤◌};
+    ghost use Rattle.base_ids.specs.declared.ids.Replica.{Replica};
+
+    ghost Value = { List Replica };
+
+    ghost view = { λ list. list.items.items };
+
+    ghost invariant = { λ list. length list.items.items ≤ 9 };
+}
+
+impl ReplicaList {
+    /// The list of these replicas, in their order.
+    pub fn new(alloc: Global, items: &[Replica]) -> Result<ReplicaList, NoMemory>
+        requires { length items.now ≤ 9 }
+        ensures { IfOk result (λ list. list ≡ items.now) }
+    {
+        let items = Vec::from_slice(alloc, items)?;
+        Ok(ReplicaList { items })
+    }
+
+    /// Lends the replicas.
+    pub fn as_slice(&self) -> &[Replica]
+        ensures list { result.now ≡ self.now }
+        ensures few { length self.now ≤ 9 }
+    {
+        self.items.as_slice()
+    }
+
+    /// An equal list.
+    pub fn clone_in(&self, alloc: Global) -> Result<ReplicaList, NoMemory>
+        ensures { IfOk result (λ list. list ≡ self.now) }
+    {
+        ReplicaList::new(alloc, self.as_slice())
+    }
+
+    /// Puts another replica into one place. It takes no memory.
+    pub fn replace(&mut self, index: usize, replica: Replica)
+        requires { index < length self.old }
+        ensures { self.new ≡ slice_set self.old index replica }
+    {
+        self.items[index] = replica;
+    }
+}
