@@ -1,0 +1,3 @@
+pub mod Bytes64
+pub mod Cell
+pub mod Laws
