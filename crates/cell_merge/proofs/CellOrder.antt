@@ -1,16 +1,15 @@
 -- The order of cells is total and tells all cells apart, and the greater cell is its join.
-use Rattle.std.proofs.Common.{◌≡◌, ℕ, ℤ, Bool, true, false, List, Option, Some, None, refl, sym, ◌∙◌, ap, subst, ◌⊎◌, inl, inr, IsTrue, if◌then◌else◌}
-use Rattle.std.specs.Ordering.{nat_cmp, int_cmp, ordering_then, ordering_reverse, is_lt, is_ge, is_gt, on}
+use Rattle.std.proofs.Common.{◌≡◌, true, false, Option, Some, None, refl, sym, ap, subst, ◌⊎◌, inl, inr, if◌then◌else◌}
+use Rattle.std.specs.Ordering.{int_cmp, ordering_then, ordering_reverse, is_lt, is_ge, is_gt}
 use Rattle.std.specs.declared.cmp.Ordering.{Ordering}
 use Rattle.std.specs.declared.cmp.Ordering.TheVariants.{Less, Equal, Greater}
-use Rattle.std.specs.Cmp.Lexicographic.{slice_cmp}
 use Rattle.std.specs.Cmp.{IsTotalOrder}
 use Rattle.std.specs.FinMap.{IsAntisymmetric, int_cmp-IsAntisymmetric, nat_cmp-IsAntisymmetric, slice_cmp-IsAntisymmetric}
 use Rattle.std.proofs.lemmas.Cmp.{nat_cmp_total, int_cmp_total, nat_list_cmp_total, then_total, on_total, tied_itself, upto}
 use Rattle.cell_merge.specs.declared.cell.Cell.{Cell}
 use Rattle.cell_merge.specs.declared.cell.Body.{Body}
 use Rattle.cell_merge.specs.declared.cell.Body.TheVariants.{Live, Dead}
-use Rattle.cell_merge.specs.Cell.{body_order, cell_order, greater_cell, is_not_below, IsNotBelow}
+use Rattle.cell_merge.specs.Cell.{body_order, cell_order, greater_cell, IsNotBelow}
 use Rattle.cell_merge.specs.Laws.{IsAssociative, IsCommutative, IsIdempotent, IsIdentity, IsChoice, IsLeastUpperBound, IsTotal}
 
 -- ---- the order

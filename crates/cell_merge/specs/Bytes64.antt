@@ -1,6 +1,6 @@
 -- What the fields of a `Bytes64` are, and that its bytes give them back.
 use Rattle.std.specs.Prelude.{◌≡◌, ℕ, ◌-◌, ◌≤◌, List, ◌++◌, length, take, drop, replicate}
-use Rattle.std.proofs.Common.{◌∙◌, ap, arith}
+use Rattle.std.proofs.Common.{arith}
 use Rattle.std.proofs.lemmas.List.{take-append-drop, length-take-le}
 
 -- an array of 64 bytes, of which the first `len` count and the others are zero

@@ -8,3 +8,6 @@ mod cell;
 
 pub use bytes::Bytes64;
 pub use cell::{Body, Cell, merge, order_laws};
+
+#[cfg(test)]
+mod tests;
