@@ -1,0 +1,21 @@
+use Rattle.std.proofs.Common.{rules}
+use Rattle.std.proofs.lemmas.List.{take_rest}
+use Rattle.fault_io.proofs.Pieces.{after_held-take}
+use Rattle.fault_io.proofs.writing.write_all.Goals as goal
+
+pub writing-preserved : goal.writing-preserved
+writing-preserved g c = record {
+  within = search rules;
+  written = after_held-take
+      _
+      _
+      _
+      c.args.bytes.now
+      _
+      c.writing.at
+      c.in-Took.n
+      c.writing.invariant.written
+      c.in-Took.ensures.bytes
+      (take_rest c.args.bytes.now c.writing.at);
+  later = search rules;
+}
