@@ -16,8 +16,12 @@ pub enum Taken {
     Failed,
 }
 
-/// Where bytes come from. A source has a content, which it may tell or not, and counts its faults and the bytes that it
-/// has given. Both counts stop at 2^64 - 1.
+/// Where bytes come from: a file, a terminal or a list in memory, each call of which may fail. This trait is the
+/// project's own.
+///
+/// A source has a content, which it may tell or not, and keeps two counts that stop at 2^64 - 1: of the calls that
+/// failed, and of the bytes that were given. A call fails only where it raises the first count, and a count that stands
+/// at its last value counts as raised.
 pub trait Source {
     // The bytes that are left, where the source tells them.
     ghost left: { Self → Option (List ℕ) };
@@ -28,8 +32,8 @@ pub trait Source {
     // How many bytes were given.
     ghost given: { Self → ℕ };
 
-    /// Asks for as many bytes as `buf` has room for. The source may give fewer. `Got(0)` for a buffer that is not empty
-    /// says the same as `End`.
+    /// Asks for as many bytes as `buf` has room for. The source may give fewer, which are then the first bytes of the
+    /// buffer. `Got(0)` for a buffer that is not empty says the same as `End`: nothing is left.
     fn next(&mut self, buf: &mut [u8]) -> Taken
         ensures room { TakesWithin result (length buf.old) }
         ensures bytes { left self.old ≡ before_left (bytes_taken result buf.new) (left self.new) }
@@ -56,8 +60,10 @@ pub enum ReadError {
 /// How many bytes one call of a source is asked for at most.
 const CHUNK: usize = 4096;
 
-/// Reads a source to its end, at most `limit` bytes, in at most `limit + 1` calls. It takes one byte past the limit at most, and answers
-/// `TooLong` exactly where it took that byte. At an error what was taken is gone.
+/// Reads a source to its end, which is at most `limit` bytes. `TooLong` comes exactly where one byte more than the limit
+/// was taken, `ReadFault` only where the source's count of faults rose, and `NoMemory` where there was no room for bytes
+/// within the limit. Each call of the source takes a byte or is the last one, so there are at most `limit + 1` calls. After an
+/// error the bytes that were taken are gone.
 pub fn read_all<S: Source>(
     alloc: Global,
     source: &mut S,

@@ -1,7 +1,7 @@
 use super::*;
 use std::alloc::{AllocError, Global};
 use std::io;
-use std::io::{ErrorKind, Read};
+use std::io::{ErrorKind, Read, Write};
 use std::test::Fail;
 
 /// A source of these bytes in pieces of two that fails at one call.
@@ -74,26 +74,44 @@ fn a_writer_of_std_gets_all_bytes(rt: HostRuntime) -> Result<(), Fail> {
     Ok(())
 }
 
-/// A reader of one byte, whose second read fails.
+/// A reader of single bytes, and a writer of single bytes, whose second read and second flush fail.
 #[derive(Drop)]
 struct FailsOnce {
-    reads: u8,
+    calls: u8,
 }
 
 impl Read for FailsOnce {
     fn read(&mut self, buf: &mut [u8]) -> io::Result<usize> {
-        self.reads = self.reads.saturating_add(1);
-        if self.reads == 2 {
+        self.calls = self.calls.saturating_add(1);
+        if self.calls == 2 {
             return Err(ErrorKind::Other.into());
         }
         Ok(buf.len().min(1))
     }
 }
 
+impl Write for FailsOnce {
+    fn write(&mut self, buf: &[u8]) -> io::Result<usize> {
+        Ok(buf.len().min(1))
+    }
+
+    fn flush(&mut self) -> io::Result<()> {
+        self.calls = self.calls.saturating_add(1);
+        if self.calls == 2 {
+            return Err(ErrorKind::Other.into());
+        }
+        Ok(())
+    }
+}
+
 #[test]
-fn a_failed_read_and_a_write_of_nothing_are_faults(rt: HostRuntime) -> Result<(), Fail> {
-    let faulty = read_all(rt.alloc(), &mut StdSource::new(FailsOnce { reads: 0 }), 9);
+fn a_failed_read_flush_or_empty_write_is_a_fault(rt: HostRuntime) -> Result<(), Fail> {
+    let mut source = StdSource::new(FailsOnce { calls: 0 });
+    let faulty = read_all(rt.alloc(), &mut source, 9);
     assert_eq!(rt; faulty.err(), Some(ReadError::ReadFault));
+    let mut sink = StdSink::new(FailsOnce { calls: 0 });
+    assert_eq!(rt; sink.put(b"abc"), Placed::Took(1));
+    assert_eq!(rt; sink.put(b"bc"), Placed::Failed);
     let mut room = [0; 2];
     let full: &mut [u8] = &mut room;
     assert_eq!(rt; write_all(&mut StdSink::new(full), b"abc"), Err(WriteFault));

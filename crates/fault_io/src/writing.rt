@@ -13,7 +13,11 @@ pub enum Placed {
     Failed,
 }
 
-/// Where bytes go to. A sink has a content, which it may tell or not, and counts its faults. The count stops at 2^64 - 1.
+/// Where bytes go to: a file, a terminal or a list in memory, each call of which may fail. This trait is the project's
+/// own.
+///
+/// A sink has a content, which it may tell or not, and counts the calls that failed. A call fails only where it raises
+/// that count, which stops at 2^64 - 1. A count that stands there counts as raised.
 pub trait Sink {
     // The bytes that the sink took so far, where it tells them.
     ghost held: { Self → Option (List ℕ) };
@@ -21,7 +25,8 @@ pub trait Sink {
     // How many calls have failed.
     ghost faults: { Self → ℕ };
 
-    /// Gives the sink a piece, of which it takes at least one byte, if there is one, or fails.
+    /// Gives the sink a piece. The sink takes some of it, from its first byte on and at least one byte if there is one, or
+    /// fails and takes nothing.
     fn put(&mut self, bytes: &[u8]) -> Placed
         ensures room { PlacesWithin result (length bytes.now) }
         ensures bytes { held self.new ≡ after_held (held self.old) (bytes_placed result bytes.now) }
@@ -34,8 +39,9 @@ pub trait Sink {
 #[error("the sink failed")]
 pub struct WriteFault;
 
-/// Writes all of `bytes` in order, in as many calls as the sink makes of it, at most one for each byte. It takes no
-/// memory. At an error a part of `bytes` is written.
+/// Writes all of `bytes` in order. `WriteFault` comes only where the sink's count of faults rose, and the sink has then
+/// taken a part of them, from the first on, and not all. Each call of the sink takes a byte or is the last one, and no
+/// memory is taken.
 pub fn write_all<K: Sink>(sink: &mut K, bytes: &[u8]) -> Result<(), WriteFault>
     ensures whole { OnOk result (K.held sink.new ≡ after_held (K.held sink.old) bytes.now) }
     ensures part { OnErr result (AddsPart (K.held sink.old) (K.held sink.new) bytes.now) }
