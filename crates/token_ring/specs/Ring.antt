@@ -1,9 +1,40 @@
-use Rattle.std.specs.Prelude.{◌-◌, ◌^◌, ◌≢◌, ℤ, negsuc}
+-- The ring: signed 64-bit numbers in order, divided evenly into a power of two of tablets.
+use Rattle.std.specs.Prelude.{◌≡◌, ◌+◌, ◌-◌, ◌*◌, ◌/◌, ◌^◌, ◌≤◌, ◌<ℤ◌, ℕ, ℤ, negsuc, pos, max}
 
--- the one 64-bit number that is no token, -2^63
+-- the one signed 64-bit number that is no token, -2^63
 abbrev pub least_number : ℤ
 least_number = negsuc (2 ^ 63 - 1)
 
--- which signed numbers are tokens
+-- a token: any signed 64-bit number above the least one
 abbrev pub IsToken : ℤ → Type 0
-IsToken value = value ≢ least_number
+IsToken value = (least_number <ℤ value) × (value <ℤ pos (2 ^ 63))
+
+-- the place of a number on the ring: it plus 2^63
+abbrev pub place : ℤ → ℕ
+place (pos n) = 2 ^ 63 + n
+place (negsuc n) = 2 ^ 63 - (n + 1)
+
+-- how many places each of 2^log2 tablets has
+abbrev pub width : ℕ → ℕ
+width log2 = 2 ^ (64 - log2)
+
+-- the tablet of a token, of 2^log2 tablets
+abbrev pub tablet_at : ℕ → ℤ → ℕ
+tablet_at log2 token = place token / width log2
+
+-- the first and the last place of a tablet that are places of tokens; place 0 is no token's
+abbrev pub first_place : ℕ → ℕ → ℕ
+first_place log2 tablet = max 1 (tablet * width log2)
+
+abbrev pub last_place : ℕ → ℕ → ℕ
+last_place log2 tablet = (tablet + 1) * width log2 - 1
+
+-- a token lies from the first to the last place of a tablet
+abbrev pub IsBetween : ℕ → ℕ → ℤ → Type 0
+IsBetween log2 tablet token = (first_place log2 tablet ≤ place token) × (place token ≤ last_place log2 tablet)
+
+-- the places of the two tablets that a tablet is split into follow one another, and together are its places
+pub record HasChildren (log2 : ℕ) (tablet : ℕ) : Type 0 where
+  pub first : first_place (log2 + 1) (2 * tablet) ≡ first_place log2 tablet
+  pub follows : last_place (log2 + 1) (2 * tablet) + 1 ≡ first_place (log2 + 1) (2 * tablet + 1)
+  pub last : last_place (log2 + 1) (2 * tablet + 1) ≡ last_place log2 tablet

@@ -1,7 +1,8 @@
-ghost use Rattle.std.specs.Prelude.{◌≡◌, SomeIff, option_map};
-ghost use Rattle.token_ring.specs.Ring.{IsToken};
+ghost use Rattle.std.specs.Prelude.{◌≡◌, ◌↔◌, IfSome, IsNone};
+ghost use Rattle.token_ring.specs.Ring.{IsToken, least_number};
 
-/// A place on the ring: any signed 64-bit number but the least, -2^63.
+/// A token, a place on the ring: any signed 64-bit number but the least, -2^63.
+/// Source: ScyllaDB's tokens.
 #[derive(Clone, Copy, Debug, PartialEq, Eq, PartialOrd, Ord)]
 pub struct Token {
     value: i64,
@@ -11,7 +12,8 @@ pub struct Token {
 impl Token {
     /// The token of this number; `None` exactly at -2^63.
     pub fn new(value: i64) -> Option<Token>
-        ensures { SomeIff (option_map (λ token. token.value) result) (IsToken value) value }
+        ensures least { IsNone result ↔ value ≡ least_number }
+        ensures token { IfSome result (λ token. token.value ≡ value) }
     {
         if value == i64::MIN {
             None

@@ -1,0 +1,17 @@
+use Rattle.std.proofs.Common.{◌≡◌, arith}
+use Rattle.token_ring.proofs.Places.{in_range, range_has, second_place}
+use Rattle.token_ring.specs.Ring.{place, first_place, last_place}
+use Rattle.token_ring.proofs.ring.range_of.Goals as goal
+
+pub token_at-requires-2 : goal.token_at-requires-2
+token_at-requires-2 c =
+    second_place c.args.log2 c.args.tablet.0 c.start_of-end.result c.requires.divided c.start_of-end.ensures.places
+
+pub returns-clause-tokens : goal.returns-clause-tokens
+returns-clause-tokens c =
+    let low : place c.token_at.result.value ≡ first_place c.args.log2 c.args.tablet.0 = omega arith in
+    let high : place c.token_at-2.result.value ≡ last_place c.args.log2 c.args.tablet.0 = omega arith in
+    λ token. (
+      λ h. in_range c.args.log2 c.args.tablet.0 c.token_at.result.value c.token_at-2.result.value token.value c.token_at.result.is_token c.token_at-2.result.is_token token.is_token low high h.0 h.1,
+      λ e. range_has c.args.log2 c.args.tablet.0 c.token_at.result.value c.token_at-2.result.value token.value c.token_at.result.is_token c.token_at-2.result.is_token token.is_token low high e,
+    )

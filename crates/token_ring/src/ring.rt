@@ -1,0 +1,131 @@
+ghost use Rattle.std.specs.Prelude.{◌≡◌, ◌↔◌, ◌+◌, ◌*◌, ◌/◌, ◌^◌, ◌<◌, ◌≤◌};
+ghost use Rattle.token_ring.specs.Ring.{place, tablet_at, first_place, last_place, width};
+ghost use Rattle.token_ring.specs.Range.{IsIn};
+ghost use Rattle.token_ring.specs.declared.token.Token.{Token};
+
+use crate::token::Token;
+
+/// A tablet of a table: its place among the table's tablets, from 0.
+#[derive(Clone, Copy, Debug, PartialEq, Eq, PartialOrd, Ord)]
+pub struct TabletId(pub u32);
+
+/// The tokens from `first` to `last`, both included.
+#[derive(Clone, Copy, Debug, PartialEq, Eq)]
+pub struct TokenRange {
+    pub first: Token,
+    pub last: Token,
+}
+
+/// The tablet of a token where the ring is divided into `2^log2` tablets.
+/// Source: ScyllaDB's tablet map, for powers of two.
+pub fn tablet_of(log2: u8, token: Token) -> TabletId
+    requires { log2 ≤ 10 }
+    ensures tablet { result.0 ≡ tablet_at log2 token.value }
+    ensures below { result.0 < 2 ^ log2 }
+{
+    TabletId((u128::from(place_of(token)) >> (64 - log2)) as u32)
+}
+
+/// All tokens of a tablet where the ring is divided into `2^log2` tablets.
+pub fn range_of(log2: u8, tablet: TabletId) -> TokenRange
+    requires divided { log2 ≤ 10 }
+    requires within { tablet.0 < 2 ^ log2 }
+    ensures first { place result.first.value ≡ first_place log2 tablet.0 }
+    ensures last { place result.last.value ≡ last_place log2 tablet.0 }
+    ensures tokens { (token : Token) → IsIn result token ↔ (tablet_at log2 token.value ≡ tablet.0) }
+{
+    let start = start_of(log2, tablet.0);
+    let end = start_of(log2, tablet.0 + 1);
+    TokenRange {
+        first: token_at(start.max(1) as u64),
+        last: token_at((end - 1) as u64),
+    }
+}
+
+/// The two tablets that a tablet is split into.
+pub fn children(tablet: TabletId) -> (TabletId, TabletId)
+    requires { tablet.0 < 1024 }
+    ensures left { result.0.0 ≡ 2 * tablet.0 }
+    ensures right { result.1.0 ≡ 2 * tablet.0 + 1 }
+{
+    (TabletId(2 * tablet.0), TabletId(2 * tablet.0 + 1))
+}
+
+/// The tablet that a tablet is merged into.
+pub fn parent(tablet: TabletId) -> TabletId
+    ensures { result.0 ≡ tablet.0 / 2 }
+{
+    TabletId(tablet.0 / 2)
+}
+
+/// How many places of the ring the first `tablets` of `2^log2` tablets have.
+fn start_of(log2: u8, tablets: u32) -> u128
+    requires divided { log2 ≤ 10 }
+    requires within { tablets ≤ 2 ^ log2 }
+    ensures places { result ≡ tablets * width log2 }
+    ensures below { result ≤ 2 ^ 64 }
+{
+    u128::from(tablets) << (64 - log2)
+}
+
+/// The place of a token on the ring.
+fn place_of(token: Token) -> u64
+    ensures { result ≡ place token.value }
+{
+    token.get().abs_diff(i64::MIN)
+}
+
+/// The token at a place of the ring.
+fn token_at(at: u64) -> Token
+    requires { 0 < at }
+    ensures { place result.value ≡ at }
+{
+    let Some(token) = Token::new((i128::from(at) - (1 << 63)) as i64) else {
+        unreachable!()
+    };
+    token
+}
+
+#[cfg(test)]
+mod tests {
+    use super::*;
+    use std::test::Fail;
+
+    fn token(value: i64) -> Result<Token, Fail> {
+        Ok(Token::new(value).ok_or("no token")?)
+    }
+
+    #[test]
+    fn tokens(rt: HostRuntime) -> Result<(), Fail> {
+        assert_eq!(rt; Token::new(i64::MIN), None);
+        assert_eq!(rt; token(i64::MIN + 1)?.get(), i64::MIN + 1);
+        assert_eq!(rt; token(-1)?.get(), -1);
+        Ok(())
+    }
+
+    #[test]
+    fn tablets(rt: HostRuntime) -> Result<(), Fail> {
+        assert_eq!(rt; tablet_of(0, token(17)?), TabletId(0));
+        assert_eq!(rt; tablet_of(1, token(-1)?), TabletId(0));
+        assert_eq!(rt; tablet_of(1, token(0)?), TabletId(1));
+        assert_eq!(rt; tablet_of(10, token(i64::MAX)?), TabletId(1023));
+        assert_eq!(rt; children(TabletId(3)), (TabletId(6), TabletId(7)));
+        assert_eq!(rt; parent(TabletId(7)), TabletId(3));
+        Ok(())
+    }
+
+    #[test]
+    fn ranges(rt: HostRuntime) -> Result<(), Fail> {
+        let all = TokenRange {
+            first: token(i64::MIN + 1)?,
+            last: token(i64::MAX)?,
+        };
+        let second = TokenRange {
+            first: token(-(1 << 62))?,
+            last: token(-1)?,
+        };
+        assert_eq!(rt; range_of(0, TabletId(0)), all);
+        assert_eq!(rt; range_of(2, TabletId(1)), second);
+        Ok(())
+    }
+}
