@@ -7,22 +7,19 @@ use Rattle.cell_merge.specs.declared.cell.Cell.{Cell}
 use Rattle.cell_merge.specs.Cell.{greater_cell}
 use Rattle.stage_graph.specs.declared.kind.Kind.{Kind}
 use Rattle.stage_graph.specs.declared.kind.Kind.TheVariants.{Read as ReadKind, Write as WriteKind}
+use Rattle.quorum_tally.specs.Replicas.{same_replica}
 use Rattle.quorum_ops.specs.declared.data.Answer.{Answer}
 use Rattle.quorum_ops.specs.declared.data.Said.{Said}
 use Rattle.quorum_ops.specs.declared.data.Said.TheVariants.{Written, Found, Stale as Refused}
 use Rattle.quorum_ops.specs.declared.data.Reply.{Reply}
 use Rattle.quorum_ops.specs.declared.data.Reply.TheVariants.{Ok, Read, Stale, Timeout}
 
--- the same host and the same shard
-abbrev pub is_same_replica : Replica → Replica → Bool
-is_same_replica a b = (a.host.0 == b.host.0) && (a.shard.0 == b.shard.0)
-
 -- what the replica said first
 abbrev pub first_said : List Answer → Replica → Option Said
 first_said [] replica = None
 first_said (answer ∷ earlier) replica =
     if is_some (first_said earlier replica) then first_said earlier replica
-    else if is_same_replica answer.from replica then Some answer.said
+    else if same_replica replica answer.from then Some answer.said
     else None
 
 -- the replica counts as answered: it wrote the cell, or told the one that it holds
