@@ -108,7 +108,7 @@ pub few_tablets : (log2 : ℕ) → log2 ≤ 10 → 2 ^ log2 ≤ 2 ^ 10
 few_tablets log2 h = pow-le-pow_right {n = 2} (omega arith) h
 
 -- the last place of a tablet is a token's
-pub second_place : (log2 tablet end : ℕ) → log2 ≤ 10 → end ≡ (tablet + 1) * width log2 → 0 < end - 1
+pub second_place : (log2 tablet end : ℕ) → log2 ≤ 10 → end ≡ (tablet + 1) * width log2 → 1 < end
 second_place log2 tablet end h e = let big : 1 < width log2 = width_big log2 h in omega arith
 
 -- a range whose ends have the first and the last place of a tablet has exactly its tokens

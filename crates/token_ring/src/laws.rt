@@ -3,6 +3,11 @@ ghost use Rattle.std.specs.Prelude.{◌≡◌, ◌↔◌, ◌+◌, ◌/◌, ◌^
 ghost use Rattle.token_ring.specs.Ring.{tablet_at, IsBetween, HasChildren};
 ghost use Rattle.token_ring.specs.declared.token.Token.{Token};
 
+/// Tokens of one number are one token.
+pub fn law_one_token()
+    ensures { (a b : Token) → a.value ≡ b.value → a ≡ b }
+{}
+
 /// Each token lies in one of the `2^log2` tablets.
 pub fn law_in_one_tablet()
     ensures { (log2 : ℕ) (token : Token) → log2 ≤ 10 → tablet_at log2 token.value < 2 ^ log2 }

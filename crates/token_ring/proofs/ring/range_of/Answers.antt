@@ -5,7 +5,7 @@ use Rattle.token_ring.proofs.ring.range_of.Goals as goal
 
 pub token_at-requires-2 : goal.token_at-requires-2
 token_at-requires-2 c =
-    second_place c.args.log2 c.args.tablet.0 c.start_of-end.result c.requires.divided c.start_of-end.ensures.places
+    omega (arith, second_place c.args.log2 c.args.tablet.0 c.start_of-end.result c.requires.divided c.start_of-end.ensures.places)
 
 pub returns-clause-tokens : goal.returns-clause-tokens
 returns-clause-tokens c =
