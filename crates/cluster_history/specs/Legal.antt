@@ -1,5 +1,5 @@
 -- Which rule an event breaks, which outputs it has, and which journals are legal runs.
-use Rattle.std.specs.Prelude.{◌≡◌, ◌+◌, Bool, Option, Some, None, List, [], ◌∷◌, map, reverse, nat_lt, if◌then◌else◌, ◌⊎◌}
+use Rattle.std.specs.Prelude.{◌≡◌, ◌+◌, Bool, Option, Some, None, List, [], ◌∷◌, ◌++◌, map, reverse, nat_lt, if◌then◌else◌, ◌⊎◌}
 use Rattle.base_ids.specs.declared.ids.HostId.{HostId}
 use Rattle.base_ids.specs.declared.ids.LaneId.{LaneId}
 use Rattle.base_ids.specs.declared.ids.OpId.{OpId}
@@ -128,6 +128,23 @@ outputs_of opening past (Begin lane operation version) =
     begin_outputs lane (next_op past lane) version operation (route_of opening past version operation)
 outputs_of opening past (Take lane at) = take_outputs opening past lane (message_at past at)
 outputs_of opening past (Serve host at) = serve_outputs opening past host (message_at past at)
+
+-- the event with its outputs
+abbrev pub entry_of : Opening → List Entry → Event → Entry
+entry_of opening past event = record { event = event; outputs = outputs_of opening past event }
+
+-- the journal with one event more
+abbrev pub with_event : Journal → Event → Journal
+with_event journal event =
+    record journal { entries = journal.entries ++ entry_of journal.opening (reverse journal.entries) event ∷ [] }
+
+-- the journal of an opening that nothing has happened to
+abbrev pub opening_journal : Opening → Journal
+opening_journal opening = record { opening = opening; entries = [] }
+
+-- the first rule that the event breaks after a journal
+abbrev pub broken_after : Journal → Event → Option EventRule
+broken_after journal event = broken journal.opening (reverse journal.entries) event
 
 -- the entry may come next: its actor is there, it breaks no rule, and its outputs are those that it must have
 pub record IsNext (opening : Opening) (past : List Entry) (entry : Entry) : Type 0 where
