@@ -1,1 +1,3 @@
 pub mod Decision
+pub mod Pending
+pub mod Taken

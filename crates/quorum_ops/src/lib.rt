@@ -2,5 +2,14 @@
 #![tactic(auto)]
 
 pub mod data;
+mod laws;
+mod read_op;
+mod refusal;
+mod taking;
+mod write_op;
 
 pub use data::{Answer, ReadAsk, ReadAskList, Reply, Said, WriteAsk, WriteAskList};
+pub use laws::decision_laws;
+pub use read_op::ReadOp;
+pub use taking::Taking;
+pub use write_op::WriteOp;
