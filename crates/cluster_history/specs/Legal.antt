@@ -1,12 +1,13 @@
 -- Which rule an event breaks, which outputs it has, and which journals are legal runs.
 use Rattle.std.specs.Prelude.{◌≡◌, ◌+◌, Bool, Option, Some, None, List, [], ◌∷◌, ◌++◌, map, reverse, nat_lt, if◌then◌else◌, ◌⊎◌}
-use Rattle.base_ids.specs.declared.ids.HostId.{HostId}
 use Rattle.base_ids.specs.declared.ids.LaneId.{LaneId}
 use Rattle.base_ids.specs.declared.ids.OpId.{OpId}
 use Rattle.base_ids.specs.declared.ids.Replica.{Replica}
 use Rattle.base_ids.specs.declared.ids.Version.{Version}
 use Rattle.base_ids.specs.declared.rules.EventRule.{EventRule}
 use Rattle.base_ids.specs.declared.rules.EventRule.TheVariants.{BelowFloor, AboveVersion, NoMessage, WrongMessage}
+use Rattle.cell_merge.specs.declared.cell.Cell.{Cell}
+use Rattle.register_model.specs.declared.data.Key.{Key}
 use Rattle.quorum_ops.specs.Decision.{decision}
 use Rattle.quorum_ops.specs.declared.data.Answer.{Answer}
 use Rattle.quorum_ops.specs.declared.data.Reply.{Reply}
@@ -112,13 +113,14 @@ said_to version fence said = if nat_lt version.0 fence.0 then Stale fence else s
 abbrev pub answer_of : LaneId → OpId → Replica → Said → Output
 answer_of lane op from said = Sent (AnswerSent (record { lane = lane; op = op; from = from; said = said }))
 
-abbrev pub serve_outputs : Opening → List Entry → HostId → Option Message → List Output
-serve_outputs opening past host None = []
-serve_outputs opening past host (Some (WriteSent ask)) =
-    answer_of ask.lane ask.op ask.to (said_to ask.version (fence_of opening past host) Written) ∷ []
-serve_outputs opening past host (Some (ReadSent ask)) =
-    answer_of ask.lane ask.op ask.to (said_to ask.version (fence_of opening past host) (Found (held past host (read_key ask)))) ∷ []
-serve_outputs opening past host (Some (AnswerSent answer)) = []
+-- what a host answers to an ask, by its fence and by what it holds at each key
+abbrev pub serve_outputs : Version → (Key → Option Cell) → Option Message → List Output
+serve_outputs fence held_at None = []
+serve_outputs fence held_at (Some (WriteSent ask)) =
+    answer_of ask.lane ask.op ask.to (said_to ask.version fence Written) ∷ []
+serve_outputs fence held_at (Some (ReadSent ask)) =
+    answer_of ask.lane ask.op ask.to (said_to ask.version fence (Found (held_at (read_key ask)))) ∷ []
+serve_outputs fence held_at (Some (AnswerSent answer)) = []
 
 -- ---- legal runs
 
@@ -127,7 +129,7 @@ abbrev pub outputs_of : Opening → List Entry → Event → List Output
 outputs_of opening past (Begin lane operation version) =
     begin_outputs lane (next_op past lane) version operation (route_of opening past version operation)
 outputs_of opening past (Take lane at) = take_outputs opening past lane (message_at past at)
-outputs_of opening past (Serve host at) = serve_outputs opening past host (message_at past at)
+outputs_of opening past (Serve host at) = serve_outputs (fence_of opening past host) (held past host) (message_at past at)
 
 -- the event with its outputs
 abbrev pub entry_of : Opening → List Entry → Event → Entry

@@ -1,6 +1,7 @@
 // A cluster as a machine over single events. What it keeps is tied to its journal, and the journal is a legal run.
 #![tactic(auto)]
 
+pub mod cells;
 pub mod machine;
 pub mod step;
 
