@@ -1,5 +1,6 @@
 #![tactic(auto)]
 
+mod report;
 mod schedule;
 
 fn main() {}
