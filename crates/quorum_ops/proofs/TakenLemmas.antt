@@ -1,6 +1,5 @@
 -- An operation that takes answers one by one stands as the definitions say, and decides as they say.
-use Rattle.std.proofs.Common.{◌≡◌, ℕ, ◌+◌, ◌-◌, ◌≤◌, ◌<◌, Bool, true, false, ◌&&◌, ◌||◌, cond, List, [], ◌∷◌, length, map, count_by, Option, Some, None, is_some, if◌then◌else◌, nat_le, nat_lt, refl, sym, ◌∙◌, ap, subst, arith}
-use Rattle.std.specs.List.{list_any}
+use Rattle.std.proofs.Common.{◌≡◌, ℕ, ◌+◌, ◌-◌, Bool, true, false, ◌&&◌, ◌||◌, cond, List, [], ◌∷◌, length, map, count_by, Option, Some, None, is_some, if◌then◌else◌, nat_le, nat_lt, refl, sym, ◌∙◌, ap}
 use Rattle.std.specs.Option.{option_or}
 use Rattle.std.proofs.lemmas.List.{length-map}
 use Rattle.std.proofs.lemmas.List.Sums.{sum_by-cons}
@@ -14,12 +13,10 @@ use Rattle.cell_merge.proofs.CellOrder.{greater-associative, greater-commutative
 use Rattle.stage_graph.specs.declared.kind.Kind.{Kind}
 use Rattle.stage_graph.specs.declared.kind.Kind.TheVariants.{Read as ReadKind, Write as WriteKind}
 use Rattle.quorum_tally.specs.declared.tally.Place.{Place}
-use Rattle.quorum_tally.specs.declared.tally.Standing.{Standing}
-use Rattle.quorum_tally.specs.declared.tally.Standing.TheVariants.{Unmarked, Answered, Refused}
-use Rattle.quorum_tally.specs.declared.tally.Mark.{Mark}
 use Rattle.quorum_tally.specs.declared.tally.Mark.TheVariants.{Fresh, Repeat, Stranger}
 use Rattle.quorum_tally.specs.Replicas.{same_replica}
-use Rattle.quorum_tally.specs.Standings.{Standings, is_unmarked, is_answered, is_refused, unmarked_standings, is_place_of, is_target, is_open_place, is_open, mark_in, mark_of, marked_place, marked_standings, answered_count as answered_in, refused_count as refused_in, hopeful_count}
+use Rattle.quorum_tally.specs.Standings.{is_unmarked, is_answered, is_refused, is_target, is_open, mark_in, marked_place, answered_count as answered_in, refused_count as refused_in, hopeful_count}
+use Rattle.quorum_tally.proofs.PlaceLemmas.{open_target}
 use Rattle.quorum_ops.specs.declared.data.Answer.{Answer}
 use Rattle.quorum_ops.specs.declared.data.Said.{Said}
 use Rattle.quorum_ops.specs.declared.data.Said.TheVariants.{Written, Found, Stale}
@@ -92,7 +89,7 @@ hopeful_count-by answers targets need =
 
 -- ---- one more answer
 
-marked_by-by : (earlier : List Answer) (targets : List Replica) (need : ℕ) (lane : LaneId) (op : OpId) (from : Replica) (said : Said) → marked_by (standings_by earlier targets need) from said ≡ standings_by (record { lane = lane; op = op; from = from; said = said } ∷ earlier) targets need
+pub marked_by-by : (earlier : List Answer) (targets : List Replica) (need : ℕ) (lane : LaneId) (op : OpId) (from : Replica) (said : Said) → marked_by (standings_by earlier targets need) from said ≡ standings_by (record { lane = lane; op = op; from = from; said = said } ∷ earlier) targets need
 marked_by-by earlier targets need lane op from Written = ap (λ places. record { places = places; need = need }) (places_step earlier lane op from Written targets)
 marked_by-by earlier targets need lane op from (Found cell) = ap (λ places. record { places = places; need = need }) (places_step earlier lane op from (Found cell) targets)
 marked_by-by earlier targets need lane op from (Stale fence) = ap (λ places. record { places = places; need = need }) (places_step earlier lane op from (Stale fence) targets)
@@ -145,7 +142,7 @@ in_front told cell rest false true none = sym (greater-associative told rest cel
 in_front told cell rest false false none = refl
 
 -- the greatest told cell, after one more answer
-told_step : (earlier : List Answer) (lane : LaneId) (op : OpId) (from : Replica) (said : Said) (targets : List Replica) → greatest_told (record { lane = lane; op = op; from = from; said = said } ∷ earlier) targets ≡ (if is_open (map (place_by earlier) targets) from then greater_cell (greatest_told earlier targets) (found_cell said) else greatest_told earlier targets)
+pub told_step : (earlier : List Answer) (lane : LaneId) (op : OpId) (from : Replica) (said : Said) (targets : List Replica) → greatest_told (record { lane = lane; op = op; from = from; said = said } ∷ earlier) targets ≡ (if is_open (map (place_by earlier) targets) from then greater_cell (greatest_told earlier targets) (found_cell said) else greatest_told earlier targets)
 told_step earlier lane op from said [] = refl
 told_step earlier lane op from said (target ∷ targets) =
     let first : Option Said = first_said earlier target in
@@ -153,16 +150,6 @@ told_step earlier lane op from said (target ∷ targets) =
     cell_step first same said (greatest_told (record { lane = lane; op = op; from = from; said = said } ∷ earlier) targets)
     ∙ ap (λ rest. if opens first same then greater_cell (found_cell said) rest else greater_cell (said_cell first) rest) (told_step earlier lane op from said targets)
     ∙ in_front (said_cell first) (found_cell said) (greatest_told earlier targets) (opens first same) (is_open (map (place_by earlier) targets) from) (open_told first same)
-
--- who is open is a target
-open_target : (from : Replica) (places : List Place) → is_open places from ≡ true → is_target places from ≡ true
-open_target from [] e = cc
-open_target from (place ∷ places) e =
-    open_first (is_place_of from place) (is_unmarked place.standing) (is_open places from) (is_target places from) e (open_target from places)
-  where
-    open_first : (of unmarked more target : Bool) → ((of && unmarked) || more) ≡ true → (more ≡ true → target ≡ true) → (of || target) ≡ true
-    open_first true unmarked more target e rest = refl
-    open_first false unmarked more target e rest = rest e
 
 -- a cell counts exactly where its replica is open
 marked_greatest : (places : List Place) (from : Replica) (greatest : Option Cell) (said : Said) → greatest_after (mark_in places from) greatest said ≡ (if is_open places from then greater_cell greatest (found_cell said) else greatest)
@@ -209,7 +196,7 @@ refusal_by answers targets need fence =
     lifted false = refl
 
 -- an answer, by the definition
-taking_after-by : (kind : Kind) (answers : List Answer) (targets : List Replica) (need : ℕ) (said : Said) → taking_after (standings_by answers targets need) said (good_reply kind (greatest_told answers targets)) ≡ taking_by (decision_by said kind targets need answers)
+pub taking_after-by : (kind : Kind) (answers : List Answer) (targets : List Replica) (need : ℕ) (said : Said) → taking_after (standings_by answers targets need) said (good_reply kind (greatest_told answers targets)) ≡ taking_by (decision_by said kind targets need answers)
 taking_after-by kind answers targets need Written = data_by answers targets need (good_reply kind (greatest_told answers targets))
 taking_after-by kind answers targets need (Found cell) = data_by answers targets need (good_reply kind (greatest_told answers targets))
 taking_after-by kind answers targets need (Stale fence) = refusal_by answers targets need fence

@@ -1,7 +1,7 @@
 -- When the answers that a request took decide it, and how. The list of answers has the newest first; all of
 -- them name the request. A replica counts by its first answer; later ones of it change nothing, and neither
 -- do answers of a replica that was not asked.
-use Rattle.std.specs.Prelude.{ℕ, ◌==◌, ◌&&◌, ◌-◌, Bool, true, false, Option, Some, None, is_some, List, [], ◌∷◌, length, count_by, if◌then◌else◌, nat_lt, nat_le}
+use Rattle.std.specs.Prelude.{ℕ, ◌-◌, Bool, true, false, Option, Some, None, is_some, List, [], ◌∷◌, length, count_by, if◌then◌else◌, nat_lt, nat_le}
 use Rattle.base_ids.specs.declared.ids.Replica.{Replica}
 use Rattle.cell_merge.specs.declared.cell.Cell.{Cell}
 use Rattle.cell_merge.specs.Cell.{greater_cell}

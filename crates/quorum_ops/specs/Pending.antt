@@ -1,5 +1,5 @@
 -- What an operation is seen as while it waits, and what an answer changes.
-use Rattle.std.specs.Prelude.{ℕ, Bool, true, false, ◌&&◌, ◌==◌, ◌≡◌, List, map, Option, Some, None, if◌then◌else◌, nat_le, nat_lt}
+use Rattle.std.specs.Prelude.{ℕ, ◌≡◌, List, Option, None, if◌then◌else◌, nat_le, nat_lt}
 use Rattle.base_ids.specs.declared.ids.LaneId.{LaneId}
 use Rattle.base_ids.specs.declared.ids.OpId.{OpId}
 use Rattle.base_ids.specs.declared.ids.Replica.{Replica}
@@ -9,7 +9,6 @@ use Rattle.cell_merge.specs.Cell.{greater_cell}
 use Rattle.quorum_tally.specs.declared.tally.Mark.{Mark}
 use Rattle.quorum_tally.specs.declared.tally.Mark.TheVariants.{Fresh, Repeat, Stranger}
 use Rattle.quorum_tally.specs.declared.tally.Standing.TheVariants.{Answered, Refused}
-use Rattle.quorum_tally.specs.declared.tally.Verdict.{Verdict}
 use Rattle.quorum_tally.specs.declared.tally.Verdict.TheVariants.{Open}
 use Rattle.quorum_tally.specs.Standings.{Standings, unmarked_standings, mark_of, marked_standings, answered_count, refused_count, hopeful_count, verdict_of}
 use Rattle.quorum_ops.specs.declared.data.WriteAsk.{WriteAsk}

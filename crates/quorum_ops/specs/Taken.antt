@@ -1,5 +1,6 @@
 -- An operation after the answers that it took, and what a list of answers brings when they are taken one by one.
-use Rattle.std.specs.Prelude.{ℕ, List, [], ◌∷◌, map, Option, Some, None}
+use Rattle.std.specs.Prelude.{ℕ, Bool, not, List, [], ◌∷◌, map, Option, Some, None}
+use Rattle.std.specs.List.{list_any}
 use Rattle.std.specs.Option.{option_or}
 use Rattle.base_ids.specs.declared.ids.LaneId.{LaneId}
 use Rattle.base_ids.specs.declared.ids.OpId.{OpId}
@@ -8,6 +9,7 @@ use Rattle.stage_graph.specs.declared.kind.Kind.{Kind}
 use Rattle.quorum_tally.specs.declared.tally.Place.{Place}
 use Rattle.quorum_tally.specs.declared.tally.Standing.{Standing}
 use Rattle.quorum_tally.specs.declared.tally.Standing.TheVariants.{Unmarked, Answered, Refused}
+use Rattle.quorum_tally.specs.Replicas.{same_replica}
 use Rattle.quorum_tally.specs.Standings.{Standings}
 use Rattle.quorum_ops.specs.declared.data.Answer.{Answer}
 use Rattle.quorum_ops.specs.declared.data.Said.{Said}
@@ -70,3 +72,13 @@ abbrev pub first_decision : Kind → List Replica → ℕ → List Answer → Li
 first_decision kind targets need earlier [] = None
 first_decision kind targets need earlier (answer ∷ later) =
     option_or (decision kind targets need (answer ∷ earlier)) (first_decision kind targets need (answer ∷ earlier) later)
+
+-- ---- answers that do not count
+
+-- the replica was not asked
+abbrev pub is_stranger : List Replica → Replica → Bool
+is_stranger targets from = not (list_any (λ target. same_replica target from) targets)
+
+-- the replica is one of those that answered
+abbrev pub is_repeat : List Answer → Replica → Bool
+is_repeat before from = list_any (λ answer. same_replica from answer.from) before

@@ -9,7 +9,10 @@ mod taking;
 mod write_op;
 
 pub use data::{Answer, ReadAsk, ReadAskList, Reply, Said, WriteAsk, WriteAskList};
-pub use laws::decision_laws;
+pub use laws::{decision_laws, idle_laws};
 pub use read_op::ReadOp;
 pub use taking::Taking;
 pub use write_op::WriteOp;
+
+#[cfg(test)]
+mod tests;

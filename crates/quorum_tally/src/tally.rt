@@ -1,4 +1,4 @@
-ghost use Rattle.std.specs.Prelude.{◌≡◌, ℕ, ◌+◌, ◌-◌, ◌<◌, ◌≤◌, length, take, map, count_by, IsTrue, ◌↔◌};
+ghost use Rattle.std.specs.Prelude.{◌≡◌, ◌≢◌, ℕ, ◌+◌, ◌-◌, ◌<◌, ◌≤◌, length, take, map, count_by, IsTrue, ◌↔◌};
 ghost use Rattle.std.specs.List.{list_any};
 ghost use Rattle.quorum_tally.specs.Replicas.{AreDistinct};
 ghost use Rattle.quorum_tally.specs.Standings.{is_unmarked, is_answered, is_refused, unmarked_place, is_target, is_open, is_place_of, is_open_place, mark_in, marked_place, verdict_at};
@@ -69,7 +69,7 @@ impl Model for Tally {
 }
 
 impl Tally {
-    ghost use Rattle.std.specs.Prelude.{◌≡◌, ◌-◌, ◌<◌, ◌≤◌, length, ◌↔◌};
+    ghost use Rattle.std.specs.Prelude.{◌≡◌, ◌≢◌, ◌<◌, ◌≤◌, length, ◌↔◌};
     ghost use Rattle.quorum_tally.specs.Replicas.{AreDistinct};
     ghost use Rattle.quorum_tally.specs.Standings.{unmarked_standings, mark_of, marked_standings, answered_count, refused_count, hopeful_count, verdict_of};
 
@@ -99,6 +99,7 @@ impl Tally {
     pub fn answer(&mut self, from: Replica) -> Mark
         ensures mark { result ≡ mark_of self.old from }
         ensures tally { self.new ≡ marked_standings self.old from Standing.Answered }
+        ensures kept { result ≢ Mark.Fresh → self.new ≡ self.old }
     {
         mark_places(&mut self.places[..self.count], from, Standing::Answered)
     }
@@ -107,6 +108,7 @@ impl Tally {
     pub fn refuse(&mut self, from: Replica) -> Mark
         ensures mark { result ≡ mark_of self.old from }
         ensures tally { self.new ≡ marked_standings self.old from Standing.Refused }
+        ensures kept { result ≢ Mark.Fresh → self.new ≡ self.old }
     {
         mark_places(&mut self.places[..self.count], from, Standing::Refused)
     }
@@ -243,12 +245,19 @@ fn is_open(places: &[Place], from: Replica) -> bool
 fn mark_places(places: &mut [Place], from: Replica, standing: Standing) -> Mark
     ensures mark { result ≡ mark_in places.old from }
     ensures places { places.new ≡ map (marked_place from standing) places.old }
+    ensures kept { result ≢ Mark.Fresh → places.new ≡ places.old }
 {
     let mark = mark_in(places, from);
+    mark_all(places, from, standing);
+    mark
+}
+
+fn mark_all(places: &mut [Place], from: Replica, standing: Standing)
+    ensures { places.new ≡ map (marked_place from standing) places.old }
+{
     for i in 0..places.len() {
         places[i] = marked_place(from, standing, places[i]);
     }
-    mark
 }
 
 fn answered_of(places: &[Place]) -> u8

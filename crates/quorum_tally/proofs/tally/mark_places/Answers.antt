@@ -1,10 +1,9 @@
-use Rattle.std.proofs.Common.{◌<◌, ◌∙◌, length, arith}
-use Rattle.quorum_tally.specs.Standings.{marked_place}
-use Rattle.quorum_tally.proofs.PlaceLemmas.{map_step}
+use Rattle.std.proofs.Common.{◌∙◌}
+use Rattle.quorum_tally.proofs.PlaceLemmas.{marked_places-unless_fresh}
 use Rattle.quorum_tally.proofs.tally.mark_places.Goals as goal
 
-pub loop-i-preserved : goal.loop-i-preserved
-loop-i-preserved c =
-    let inside : c.loop-i.i < length c.loop-i.places = omega arith in
-    map_step (marked_place c.args.from c.args.standing) c.loop-i.places c.loop-i.i _ c.marked_place.result c.marked_place.ensures inside
-    ∙ c.loop-i.invariant
+pub returns-clause-kept : goal.returns-clause-kept
+returns-clause-kept c =
+    λ not_fresh.
+    c.mark_all.ensures
+    ∙ marked_places-unless_fresh c.args.places.now c.args.from c.args.standing (λ fresh. not_fresh (c.mark_in-mark.ensures ∙ fresh))
