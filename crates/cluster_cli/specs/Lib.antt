@@ -1,2 +1,3 @@
+pub mod Play
 pub mod Report
 pub mod Schedule

@@ -1,5 +1,6 @@
 #![tactic(auto)]
 
+mod play;
 mod report;
 mod schedule;
 
