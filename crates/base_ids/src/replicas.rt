@@ -1,5 +1,5 @@
 // The replicas of a tablet, in order.
-ghost use Rattle.std.specs.Prelude.{◌≡◌, ◌≤◌, ◌<◌, length, slice_set, IfOk, OnOk};
+ghost use Rattle.std.specs.Prelude.{◌≡◌, ◌≤◌, ◌<◌, [], length, slice_set, IfOk, OnOk};
 
 use crate::ids::Replica;
 use crate::memory::NoMemory;
@@ -24,6 +24,15 @@ impl Model for ReplicaList {
 }
 
 impl ReplicaList {
+    /// The list of no replicas, which takes no memory.
+    pub fn empty(alloc: Global) -> ReplicaList
+        ensures { result ≡ [] }
+    {
+        ReplicaList {
+            items: Vec::new(alloc),
+        }
+    }
+
     /// The list of these replicas, in their order.
     pub fn new(alloc: Global, items: &[Replica]) -> Result<ReplicaList, NoMemory>
         requires { length items.now ≤ 9 }

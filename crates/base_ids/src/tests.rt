@@ -29,5 +29,6 @@ fn a_replica_list_is_cloned_and_one_place_replaced(rt: HostRuntime) -> Result<()
     copy.replace(0, second);
     assert_eq!(rt; copy.as_slice(), [second, second].as_slice());
     assert_eq!(rt; list.as_slice(), [first, second].as_slice());
+    assert_eq!(rt; ReplicaList::empty(rt.alloc()).as_slice().len(), 0);
     Ok(())
 }
