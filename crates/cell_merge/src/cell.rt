@@ -13,6 +13,7 @@ use std::cmp::Ordering;
 pub struct Cell {
     /// When the cell was written, as its client says: any number.
     pub timestamp: i64,
+    /// What it says of its key.
     pub body: Body,
 }
 

@@ -20,7 +20,9 @@ pub enum Standing {
 /// A target of a request, and how it stands.
 #[derive(Clone, Copy, Debug, PartialEq, Eq)]
 pub struct Place {
+    /// The target.
     pub replica: Replica,
+    /// How it stands.
     pub standing: Standing,
 }
 
