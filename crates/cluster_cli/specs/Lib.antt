@@ -1,3 +1,6 @@
 pub mod Play
 pub mod Report
 pub mod Schedule
+pub mod TextCuts
+pub mod TextNumbers
+pub mod TextCells

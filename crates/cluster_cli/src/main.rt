@@ -3,5 +3,6 @@
 mod play;
 mod report;
 mod schedule;
+mod text;
 
 fn main() {}

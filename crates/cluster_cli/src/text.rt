@@ -1,0 +1,4 @@
+// The reading of a schedule text.
+mod cells;
+mod cuts;
+mod numbers;
