@@ -37,9 +37,10 @@ pub cut-position : (separator : ℕ) (bytes : List ℕ) → option_map (around b
 cut-position separator [] = refl
 cut-position separator (b ∷ bytes) =
     let p : ℕ = position_or_len (λ b. b == separator) bytes in
-    elim (b == separator) as (λ t. option_map (around (b ∷ bytes)) (cond (nat_lt (cond (not t) (1 + p) 0) (length (b ∷ bytes))) (Some (cond (not t) (1 + p) 0)) None) ≡ cond t (Some ([], bytes)) (onto_front b (cut_at separator bytes)))
-    [ true ↦ rw (first_lt (length bytes)) refl
-    | false ↦ rw (← (cut-position separator bytes)) (sym (around_more b bytes p)) ]
+    elim (b == separator) as (λ t. option_map (around (b ∷ bytes)) (cond (nat_lt (cond (not t) (1 + p) 0) (length (b ∷ bytes))) (Some (cond (not t) (1 + p) 0)) None) ≡ cond t (Some ([], bytes)) (onto_front b (cut_at separator bytes))) [
+      | true ↦ rw (first_lt (length bytes)) refl
+      | false ↦ rw (← (cut-position separator bytes)) (sym (around_more b bytes p))
+    ]
 
 pub some_cut : (separator : ℕ) (bytes : List ℕ) (at : ℕ) → Some at ≡ position (λ b. b == separator) bytes → Some (take at bytes, take (length bytes - (at + 1)) (drop (at + 1) bytes)) ≡ cut_at separator bytes
 some_cut separator bytes at e =
@@ -63,9 +64,10 @@ cut_pieces : (separator : ℕ) (bytes : List ℕ) → pieces_of separator bytes 
 unfolding pieces_by
 cut_pieces separator [] = refl
 cut_pieces separator (b ∷ bytes) =
-    elim (b == separator) as (λ t. cond t ([] ∷ pieces_of separator bytes) (onto_piece b (pieces_of separator bytes)) ≡ pieces_by separator (b ∷ bytes) (cond t (Some ([], bytes)) (onto_front b (cut_at separator bytes))))
-    [ true ↦ refl
-    | false ↦ rw (cut_pieces separator bytes) (onto_pieces separator b bytes (cut_at separator bytes)) ]
+    elim (b == separator) as (λ t. cond t ([] ∷ pieces_of separator bytes) (onto_piece b (pieces_of separator bytes)) ≡ pieces_by separator (b ∷ bytes) (cond t (Some ([], bytes)) (onto_front b (cut_at separator bytes)))) [
+      | true ↦ refl
+      | false ↦ rw (cut_pieces separator bytes) (onto_pieces separator b bytes (cut_at separator bytes))
+    ]
 
 pub pieces_some : (separator : ℕ) (bytes piece behind : List ℕ) → Some (piece, behind) ≡ cut_at separator bytes → piece ∷ pieces_of separator behind ≡ pieces_of separator bytes
 unfolding pieces_by
@@ -95,9 +97,10 @@ lead_line b (Some line ∷ lines) = refl
 pub cut_lines : (bytes : List ℕ) → option_map cut_line (cut_at 10 bytes) ≡ first_line (lines_of bytes)
 cut_lines [] = refl
 cut_lines (b ∷ bytes) =
-    elim (b == 10) as (λ t. option_map cut_line (cond t (Some ([], bytes)) (onto_front b (cut_at 10 bytes))) ≡ first_line (cond t (Some [] ∷ lines_of bytes) (onto_line b (lines_of bytes))))
-    [ true ↦ refl
-    | false ↦ lead_cut b (cut_at 10 bytes) ∙ ap (lead b) (cut_lines bytes) ∙ lead_line b (lines_of bytes) ]
+    elim (b == 10) as (λ t. option_map cut_line (cond t (Some ([], bytes)) (onto_front b (cut_at 10 bytes))) ≡ first_line (cond t (Some [] ∷ lines_of bytes) (onto_line b (lines_of bytes)))) [
+      | true ↦ refl
+      | false ↦ lead_cut b (cut_at 10 bytes) ∙ ap (lead b) (cut_lines bytes) ∙ lead_line b (lines_of bytes)
+    ]
 
 -- pieces of which one comes before others are more than one
 more_pieces : (piece : List ℕ) (separator : ℕ) (bytes : List ℕ) → None ≡ only_of (piece ∷ pieces_of separator bytes)

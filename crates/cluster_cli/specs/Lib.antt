@@ -1,6 +1,9 @@
 pub mod Play
 pub mod Report
 pub mod Schedule
-pub mod TextCuts
-pub mod TextNumbers
+pub mod Text
 pub mod TextCells
+pub mod TextCuts
+pub mod TextEvents
+pub mod TextHeader
+pub mod TextNumbers

@@ -12,16 +12,21 @@ use Rattle.token_ring.specs.declared.token.Token.{Token}
 use Rattle.cluster_cli.specs.TextCuts.{◌>>=◌, at_colons, first_of, only_of}
 use Rattle.cluster_cli.specs.TextNumbers.{number_below, signed_of}
 
--- a signed number of 64 bits above the least one is a token
-pub is_token : (value : ℤ) → (int_lt least_number value && int_lt value (pos (2 ^ 63))) ≡ true → IsToken value
+-- whether a number is a token: a signed number of 64 bits, and not the least
+abbrev pub has_token : ℤ → Bool
+has_token value = int_lt least_number value && int_lt value (pos (2 ^ 63))
+
+pub is_token : (value : ℤ) → has_token value ≡ true → IsToken value
 is_token value h = grind (arith, ints)
 
--- the token of this number, if it is one
+-- the token of a number of which it was found whether it is one
+abbrev pub token_if : (value : ℤ) (found : Bool) → has_token value ≡ found → Option Token
+token_if value true h = Some (record { value = value; is_token = is_token value h })
+token_if value false h = None
+
+-- the token of this number, where it is one
 abbrev pub token_at : ℤ → Option Token
-token_at value =
-    elim (int_lt least_number value && int_lt value (pos (2 ^ 63))) as (λ b. (int_lt least_number value && int_lt value (pos (2 ^ 63))) ≡ b → Option Token)
-    [ true ↦ λ h. Some (record { value = value; is_token = is_token value h }) | false ↦ λ h. None ]
-    refl
+token_at value = token_if value (has_token value) refl
 
 unfoldable pub token_of : List ℕ → Option Token
 token_of word = do

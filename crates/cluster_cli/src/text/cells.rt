@@ -1,19 +1,26 @@
 // Tokens and cells as a text spells them.
-ghost use Rattle.std.specs.Prelude.{◌≡◌, ◌<◌, IfSome};
-ghost use Rattle.cluster_cli.specs.TextCells.{token_of, hex_digit_of, hex_byte_of, value_of, body_of, cell_of};
+ghost use Rattle.std.specs.Prelude.{◌≡◌, ◌<◌, ◌≤◌, length, IfSome};
+ghost use Rattle.cluster_cli.specs.TextCells.{token_at, token_of, hex_digit_of, hex_byte_of, hex_bytes_of, value_of, body_of, cell_of};
 
 use crate::text::cuts::{COLON, first_piece, only_piece};
 use crate::text::numbers::{number_below, signed_of};
 use cell_merge::{Body, Bytes64, Cell};
 use token_ring::{Token, law_one_token};
 
+/// The token of this number, where it is one.
+fn token_at(value: i64) -> Option<Token>
+    ensures { result ≡ token_at value }
+{
+    law_one_token();
+    Token::new(value)
+}
+
 /// A token: any signed number of 64 bits but the least.
 #[tactic(auto, unfolding(crate::specs::TextCells::token_of))]
 pub fn token_of(word: &[u8]) -> Option<Token>
     ensures { result ≡ token_of word.now }
 {
-    law_one_token();
-    Token::new(signed_of(word)?)
+    token_at(signed_of(word)?)
 }
 
 /// A hexadecimal digit of either case.
@@ -38,12 +45,12 @@ fn hex_byte_of(high: u8, low: u8) -> Option<u8>
     Some(high * 16 + low)
 }
 
-/// The value of a live cell: 0 to 64 bytes, each spelled by two digits.
-#[tactic(auto, unfolding(crate::specs::TextCells::value_of))]
-fn value_of(word: &[u8]) -> Option<Bytes64>
-    ensures { result ≡ value_of word.now }
+/// The bytes that digits spell two by two.
+fn hex_bytes_of(word: &[u8]) -> Option<Bytes64>
+    requires { length word.now ≤ 128 }
+    ensures { result ≡ hex_bytes_of word.now }
 {
-    if word.len() > 2 * Bytes64::MAX || word.len() % 2 == 1 {
+    if word.len() % 2 == 1 {
         return None;
     }
     let mut bytes = [0; 64];
@@ -52,6 +59,18 @@ fn value_of(word: &[u8]) -> Option<Bytes64>
         bytes[at] = hex_byte_of(word[2 * at], word[2 * at + 1])?;
     }
     Bytes64::new(&bytes[..count])
+}
+
+/// The value of a live cell: 0 to 64 bytes, each spelled by two digits.
+#[tactic(auto, unfolding(crate::specs::TextCells::value_of))]
+fn value_of(word: &[u8]) -> Option<Bytes64>
+    ensures { result ≡ value_of word.now }
+{
+    if word.len() > 2 * Bytes64::MAX {
+        None
+    } else {
+        hex_bytes_of(word)
+    }
 }
 
 /// What a cell is, by its first and last part.

@@ -1,5 +1,6 @@
 // Numbers as a text spells them.
-ghost use Rattle.std.specs.Prelude.{◌≡◌, ◌<◌, IfSome};
+ghost use Rattle.std.specs.Prelude.{◌≡◌, ◌<◌, IfSome, FitsSigned};
+ghost use Rattle.std.specs.Int.{w64};
 ghost use Rattle.cluster_cli.specs.TextNumbers.{digit_of, unsigned_of, number_below, negative_of, positive_of, signed_of};
 
 /// A digit, 0 to 9.
@@ -63,7 +64,8 @@ fn positive_of(word: &[u8]) -> Option<i64>
 /// A signed number of 64 bits.
 #[tactic(auto, unfolding(crate::specs::TextNumbers::signed_of))]
 pub fn signed_of(word: &[u8]) -> Option<i64>
-    ensures { result ≡ signed_of word.now }
+    ensures number { result ≡ signed_of word.now }
+    ensures fits { IfSome result (λ n. FitsSigned w64 n) }
 {
     match word {
         [] => None,
