@@ -1,1 +1,14 @@
+//! What a replica stores: a finite map from tables and tokens to cells.
 #![tactic(auto)]
+
+mod columns;
+mod gathering;
+mod store;
+mod vec_store;
+
+pub use gathering::gather;
+pub use store::{Chunk, Store, Stored, StoredList};
+pub use vec_store::VecStore;
+
+#[cfg(test)]
+mod tests;
