@@ -19,7 +19,7 @@ sound_both (tablet ∷ rest) sound =
     All-cons IsSound tablet (tablet ∷ flat_map both rest) first
     (All-cons IsSound tablet (flat_map both rest) first (sound_both rest (All-tail IsSound tablet rest sound)))
 
-twice : (log2 : ℕ) → 2 ^ (log2 + 1) ≡ 2 * 2 ^ log2
+pub twice : (log2 : ℕ) → 2 ^ (log2 + 1) ≡ 2 * 2 ^ log2
 twice log2 = omega (arith, pow-add 2 log2 1)
 
 pub split_map : (log2 : ℕ) (list : List Tablet) → log2 < 10 → IsMap log2 list → IsMap (log2 + 1) (flat_map both list)

@@ -1,6 +1,9 @@
-pub mod Tests
+pub mod Joined
 pub mod Places
 pub mod Replaced
 pub mod Pairs
 pub mod Sound
 pub mod Halves
+pub mod Members
+pub mod Counts
+pub mod Tokens

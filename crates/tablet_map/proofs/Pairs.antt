@@ -5,26 +5,23 @@ use Rattle.std.proofs.lemmas.Grind.{common_steps}
 use Rattle.std.proofs.lemmas.List.{length-map, get_or-map, ext_get_or, length-take-le, get_or-take}
 use Rattle.std.proofs.lemmas.List.Edits.{swap_is, length-swap}
 use Rattle.std.specs.List.{swap}
+use Rattle.std.specs.List.{position}
+use Rattle.std.proofs.Common.{Option}
 use Rattle.std.specs.Prelude.{option_map}
 use Rattle.tablet_map.specs.declared.tablet.Tablet.{Tablet}
 use Rattle.tablet_map.specs.Replicas.{same_set}
 use Rattle.tablet_map.specs.Tablets.{tablet_in, no_tablet}
 use Rattle.tablet_map.specs.Calls.{pairs, is_apart, least_apart}
-use Rattle.tablet_map.proofs.Places.{first_place, no_place}
+use Rattle.tablet_map.proofs.Places.{first_place, no_place, none_passes}
+use Rattle.tablet_map.proofs.Joined.{not_both}
 
 pub length-pairs : (list : List Tablet) → length (pairs list) ≡ length list / 2
 length-pairs [] = refl
 length-pairs (left ∷ []) = refl
 length-pairs (left ∷ right ∷ rest) = omega (arith, length-pairs rest)
 
-lefts : List Tablet → List Tablet
-lefts list = map (λ (pair : Tablet × Tablet). pair.0) (pairs list)
-
 pub length-lefts : (list : List Tablet) → length (map (λ (pair : Tablet × Tablet). pair.0) (pairs list)) ≡ length list / 2
 length-lefts list = length-map (pairs list) (λ (pair : Tablet × Tablet). pair.0) ∙ length-pairs list
-
-no_pair : Tablet × Tablet
-no_pair = (no_tablet, no_tablet)
 
 -- the pair of a number is the tablet of twice that number, and its right neighbour
 pub pair_at : (list : List Tablet) (at : ℕ) → at < length list / 2 → get_or (pairs list) at (no_tablet, no_tablet) ≡ (tablet_in list (2 * at), tablet_in list (2 * at + 1))
@@ -99,3 +96,18 @@ gathered_all old new at past gathered =
     let below : k < length old / 2 = omega arith in
     get_or-take (length old / 2) new k no_tablet below ∙ (gathered.front k (omega arith) ∙ sym
     (get_or-map (λ (pair : Tablet × Tablet). pair.0) (pairs old) k (no_tablet, no_tablet) no_tablet (omega (arith, length-pairs old)) ∙ ap (λ (pair : Tablet × Tablet). pair.0) (pair_at old k below))))
+
+-- the left tablet of a pair
+pub left_at : (list : List Tablet) (at : ℕ) → at < length list / 2 → tablet_in (map (λ (pair : Tablet × Tablet). pair.0) (pairs list)) at ≡ tablet_in list (2 * at)
+left_at list at below =
+    get_or-map (λ (pair : Tablet × Tablet). pair.0) (pairs list) at (no_tablet, no_tablet) no_tablet (omega (arith, length-pairs list)) ∙ ap (λ (pair : Tablet × Tablet). pair.0) (pair_at list at below)
+
+no_double : (place : Option ℕ) → option_map (λ n. 2 * n) place ≡ None → place ≡ None
+no_double None h = refl
+no_double (Some n) h = cc h
+
+-- where no pair is apart, each has the same set of replicas
+pub same_at : (list : List Tablet) (at : ℕ) → least_apart list ≡ None → at < length list / 2 → SameAt list at
+same_at list at none below =
+    let passes : is_apart (get_or (pairs list) at (no_tablet, no_tablet)) ≡ false = none_passes is_apart (pairs list) (no_tablet, no_tablet) (no_double (position is_apart (pairs list)) none) at (omega (arith, length-pairs list)) in
+    not_both (same_set (tablet_in list (2 * at)).replicas (tablet_in list (2 * at + 1)).replicas) (rw (pair_at list at below) at passes)

@@ -6,7 +6,7 @@ use Rattle.base_ids.specs.declared.ids.HostId.{HostId}
 use Rattle.base_ids.specs.declared.ids.Replica.{Replica}
 use Rattle.tablet_map.specs.Replicas.{same_replica, is_on, has_host, on_distinct_hosts, replaced, IsReplicaSet, CanMove}
 use Rattle.tablet_map.proofs.Places.{none_passes}
-use Rattle.tablet_map.proofs.Tests.{and_left, and_right, and_both, or_left, or_right, or_neither, not_true, not_false}
+use Rattle.tablet_map.proofs.Joined.{and_left, and_right, and_both, or_left, or_right, or_neither, not_true, not_false}
 
 -- a write at the first place that is the leaving one's
 pub replaced_at : (leaving pending d : Replica) (replicas : List Replica) (at : ℕ) → at < length replicas → same_replica leaving (get_or replicas at d) ≡ true → ((k : ℕ) → k < at → same_replica leaving (get_or replicas k d) ≡ false) → set replicas at pending ≡ replaced leaving pending replicas

@@ -1,3 +1,4 @@
 pub mod Replicas
 pub mod Tablets
 pub mod Calls
+pub mod Sets

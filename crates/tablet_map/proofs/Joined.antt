@@ -32,3 +32,19 @@ not_true false h = refl
 pub not_false : (a : Bool) → a ≡ false → not a ≡ true
 not_false true h = cc h
 not_false false h = refl
+
+pub or_first : (a b : Bool) → a ≡ true → (a || b) ≡ true
+or_first true b h = refl
+or_first false b h = cc h
+
+pub or_second : (a b : Bool) → b ≡ true → (a || b) ≡ true
+or_second true b h = refl
+or_second false b h = h
+
+pub not_both : (a : Bool) → not a ≡ false → a ≡ true
+not_both true h = refl
+not_both false h = cc h
+
+pub is_false : (a : Bool) → (a ≡ true → ⊥) → a ≡ false
+is_false true h = absurd (h refl)
+is_false false h = refl
