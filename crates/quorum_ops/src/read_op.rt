@@ -114,6 +114,18 @@ impl ReadOp {
         }
     }
 
+    /// An equal read, which takes answers of its own from then on.
+    pub fn copy(&self) -> ReadOp
+        ensures { result ≡ self.now }
+    {
+        ReadOp {
+            lane: self.lane,
+            op: self.op,
+            tally: self.tally.copy(),
+            greatest: self.greatest,
+        }
+    }
+
     /// The reply where the lane waits no longer. Nothing has decided the read.
     pub fn timeout(&self) -> Reply
         requires { IsUndecided self.now.request }

@@ -84,6 +84,13 @@ fn a_write_is_acknowledged_by_two_of_three(rt: HostRuntime) -> Result<(), Fail> 
                 required: 2
             }
     );
+    assert!(rt;
+        write.copy().timeout()
+            == Reply::Timeout {
+                answered: 1,
+                required: 2
+            }
+    );
     assert!(rt; write.take(&answer(SECOND, Said::Written)) == Taking::Waiting);
     assert!(rt; write.take(&answer(STRANGER, Said::Written)) == Taking::Waiting);
     assert!(rt; write.take(&answer(FIRST, Said::Stale { fence: Version(8) })) == Taking::Waiting);
@@ -119,6 +126,13 @@ fn a_read_gives_the_greatest_cell(rt: HostRuntime) -> Result<(), Fail> {
     assert!(rt; read.take(&answer(THIRD, Said::Found(Some(dead(8))))) == Taking::Waiting);
     assert!(rt;
         read.timeout()
+            == Reply::Timeout {
+                answered: 1,
+                required: 2
+            }
+    );
+    assert!(rt;
+        read.copy().timeout()
             == Reply::Timeout {
                 answered: 1,
                 required: 2

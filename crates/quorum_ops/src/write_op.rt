@@ -93,6 +93,17 @@ impl WriteOp {
         }
     }
 
+    /// An equal write, which takes answers of its own from then on.
+    pub fn copy(&self) -> WriteOp
+        ensures { result ≡ self.now }
+    {
+        WriteOp {
+            lane: self.lane,
+            op: self.op,
+            tally: self.tally.copy(),
+        }
+    }
+
     /// The reply where the lane waits no longer. Nothing has decided the write.
     pub fn timeout(&self) -> Reply
         requires { IsUndecided self.now }

@@ -115,6 +115,17 @@ impl Tally {
         mark_places(&mut self.places[..self.count], from, Standing::Refused)
     }
 
+    /// An equal tally.
+    pub fn copy(&self) -> Tally
+        ensures { result ≡ self.now }
+    {
+        Tally {
+            places: self.places,
+            count: self.count,
+            need: self.need,
+        }
+    }
+
     /// How many targets have answered.
     pub fn answered(&self) -> u8
         ensures { result ≡ answered_count self.now }

@@ -34,8 +34,10 @@ fn two_of_three_are_enough(rt: HostRuntime) {
     assert_eq!(rt; tally.verdict(), Verdict::Open);
     assert_eq!(rt; (tally.answered(), tally.refused()), (1, 1));
     assert_eq!(rt; (tally.targets(), tally.need()), (3, 2));
+    let copy = tally.copy();
     assert_eq!(rt; tally.answer(THIRD), Mark::Fresh);
     assert_eq!(rt; tally.verdict(), Verdict::Enough);
+    assert_eq!(rt; copy.verdict(), Verdict::Open);
 }
 
 #[test]
