@@ -1,5 +1,5 @@
 -- What the words on live requests say of one another.
-use Rattle.std.proofs.Common.{◌⊎◌, inl, inr, ℕ, suc, min, ◌<◌, length, arith, ◌≡◌, true, false, List, [], ◌∷◌, Some, cond, refl, ap, sym}
+use Rattle.std.proofs.Common.{◌⊎◌, inl, inr, ℕ, suc, min, ◌<◌, length, arith, ◌≡◌, true, false, List, [], ◌∷◌, Some, None, option_map, cond, refl, ap, sym}
 use Rattle.std.specs.Map.{set_value}
 use Rattle.std.specs.List.{Contains, fold, reduce}
 use Rattle.std.proofs.lemmas.Bool.{cases_lt}
@@ -16,6 +16,15 @@ module _ {P O : Type 0} where
         | true ↦ λ same. let e : r.1 ≡ x = cc in ap (λ (y : Live P O). (r.0, record y { work = work }) ∷ rs) (sym e)
         | false ↦ λ below. ap (λ es. r ∷ es) (set_value-with_work rs op x work below)
       ] found
+
+  -- where the request is not live, there is no operation to change
+  pub with_work-absent : (live : List (OpId × Live P O)) (op : OpId) (work : O) → option_map (λ r. r.work) (request_of live op) ≡ None → live ≡ with_work live op work
+  with_work-absent [] op work absent = refl
+  with_work-absent (r ∷ rs) op work absent =
+      elim (is_same op r.0) as (λ b. option_map (λ (x : Live P O). x.work) (cond b (Some r.1) (request_of rs op)) ≡ None → (r ∷ rs) ≡ cond b ((r.0, record r.1 { work = work }) ∷ rs) (r ∷ with_work rs op work)) [
+        | true ↦ λ wrong. cc
+        | false ↦ λ below. ap (λ es. r ∷ es) (with_work-absent rs op work below)
+      ] absent
 
 -- two lenders under one name are the same where they give the same for each value
 pub same_lender : {A B C : Type 0} {name : A} {before after : B → C} → ((w : B) → before w ≡ after w) → (let lent : (A × (B → C)) ⊎ C = inl (name, before) in lent) ≡ inl (name, after)

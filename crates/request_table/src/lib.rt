@@ -2,7 +2,7 @@
 #![tactic(auto)]
 
 ghost use Rattle.std.specs.Prelude.{◌≡◌, ◌<◌, ◌≤◌, ◌↔◌, ◌++◌, [], ◌∷◌, ℕ, length, option_map, IsTrue, IsNone, IfSome, OnOk, OnErr, Some, None, IsSome, All, Contains};
-ghost use Rattle.std.specs.Option.{option_copied_mut};
+ghost use Rattle.std.specs.Option.{option_copied, option_copied_mut};
 ghost use Rattle.std.specs.Borrow.{sem};
 ghost use Rattle.std.specs.List.{IsDistinct};
 ghost use Rattle.std.specs.Map.{keys_of};
@@ -92,6 +92,24 @@ impl<P: Drop, O: Drop> RequestTable<P, O> {
         match self.requests.insert(op, live) {
             Ok(_) => self.room = None,
             Err(_) => unreachable!(),
+        }
+    }
+
+    /// Lends what is kept of a request. `None` comes exactly where the request is not live.
+    pub fn get(&self, op: OpId) -> Option<&Live<P, O>>
+        ensures { option_copied result ≡ request_of self.now.live op }
+    {
+        self.requests.get(&op)
+    }
+
+    /// Puts another operation in the place of a live request's. Where the request is not live, nothing changes.
+    pub fn replace(&mut self, op: OpId, work: O)
+        ensures live { self.new.live ≡ with_work self.old.live op work }
+        ensures room { self.new.room ≡ self.old.room }
+    {
+        match self.get_mut(op) {
+            Some(lent) => *lent = work,
+            None => {}
         }
     }
 
@@ -193,6 +211,9 @@ mod tests {
         assert!(rt; table.live_below(Version(3)));
         assert!(rt; !table.live_below(Version(2)));
         raise(&mut table, OpId(8));
+        table.replace(OpId(7), 11);
+        assert!(rt; table.get(OpId(7)).is_some_and(|live| live.work == 11));
+        assert!(rt; table.get(OpId(6)).is_none());
         assert_eq!(rt; table.get_mut(OpId(6)), None);
         assert_eq!(rt; table.remove(OpId(8)), Some((Version(2), 2, 7)));
         assert_eq!(rt; table.remove(OpId(8)), None);
