@@ -1,1 +1,4 @@
 pub mod CellLemmas
+pub mod LaneHistory
+pub mod LaneLemmas
+pub mod LaneTables

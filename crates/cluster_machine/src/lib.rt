@@ -2,6 +2,7 @@
 #![tactic(auto)]
 
 pub mod cells;
+mod lane;
 pub mod machine;
 pub mod step;
 

@@ -1,0 +1,12 @@
+use Rattle.std.proofs.Common.{ap}
+use Rattle.base_ids.specs.declared.ids.OpId.{OpId}
+use Rattle.cluster_machine.specs.Lanes.{upcoming}
+use Rattle.cluster_machine.proofs.LaneLemmas.{lane_begin}
+use Rattle.cluster_machine.proofs.LaneTables.{kept_at_begin-added}
+use Rattle.cluster_machine.proofs.lane.Lane.begin.Goals as goal
+
+pub returns-clause-requests : goal.returns-clause-requests
+returns-clause-requests c = λ op. rw (c.insert.ensures.live, c.next_op-op.ensures) (kept_at_begin-added c.args.self.now.requests.live (upcoming c.args.self.now) c.args.version c.args.work op c.requires.fresh)
+
+pub returns-clause-tied : goal.returns-clause-tied
+returns-clause-tied c = λ opening past by operation targets need tied route some reachable same. lane_begin opening past by operation c.args.version targets need c.args.work c.args.self.now _ (ap (λ (op : OpId). op.0) c.next_op-op.ensures) (returns-clause-requests c) tied route some reachable same
