@@ -6,4 +6,5 @@ pub mod Sound
 pub mod Halves
 pub mod Members
 pub mod Counts
+pub mod Hosts
 pub mod Tokens

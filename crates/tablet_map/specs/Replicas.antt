@@ -1,5 +1,5 @@
 -- Lists of replicas: which hosts they are on, and lists that are the same as sets.
-use Rattle.std.specs.Prelude.{◌≤◌, ◌&&◌, ◌==◌, Bool, true, not, List, [], ◌∷◌, length, if◌then◌else◌, IsTrue}
+use Rattle.std.specs.Prelude.{◌≤◌, ◌+◌, ℕ, zero, suc, ◌&&◌, ◌==◌, Bool, true, not, List, [], ◌∷◌, length, if◌then◌else◌, IsTrue}
 use Rattle.std.specs.List.{list_any, list_all}
 use Rattle.base_ids.specs.declared.ids.HostId.{HostId}
 use Rattle.base_ids.specs.declared.ids.Replica.{Replica}
@@ -44,3 +44,8 @@ replaced leaving pending (replica ∷ rest) =
 -- the same replicas, in whatever order
 abbrev pub same_set : List Replica → List Replica → Bool
 same_set a b = list_all (holds b) a && list_all (holds a) b
+
+-- how many of the hosts below a number pass a test
+abbrev pub hosts_below : ℕ → (ℕ → Bool) → ℕ
+hosts_below zero test = 0
+hosts_below (suc n) test = (if test n then 1 else 0) + hosts_below n test

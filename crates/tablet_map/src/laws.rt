@@ -1,10 +1,11 @@
 //! Laws of the map. Each is a call that does nothing and ensures the law.
-ghost use Rattle.std.specs.Prelude.{◌≡◌, ◌+◌, ◌<◌, Bool, IsTrue, List, Ok, None, length, count_by, if◌then◌else◌};
+ghost use Rattle.std.specs.Prelude.{◌≡◌, ℕ, ◌&&◌, ◌+◌, ◌<◌, Bool, IsTrue, List, Ok, None, length, count_by, if◌then◌else◌};
+ghost use Rattle.std.specs.List.{All};
 ghost use Rattle.base_ids.specs.declared.ids.Replica.{Replica};
 ghost use Rattle.stage_graph.specs.declared.table.Selector.TheVariants.{Old, Both, New};
 ghost use Rattle.token_ring.specs.declared.token.Token.{Token};
 ghost use Rattle.tablet_map.specs.declared.tablet.Transition.{Transition};
-ghost use Rattle.tablet_map.specs.Replicas.{holds, same_set, on_distinct_hosts};
+ghost use Rattle.tablet_map.specs.Replicas.{holds, has_host, hosts_below, same_set, on_distinct_hosts};
 ghost use Rattle.tablet_map.specs.Tablets.{Tablets, IsMap};
 ghost use Rattle.tablet_map.specs.Calls.{least_moving, least_apart, split_of, merge_of, MergeEnds};
 ghost use Rattle.tablet_map.specs.Sets.{replicas_at, selected};
@@ -28,6 +29,12 @@ pub fn law_merge_keeps_sets()
 pub fn law_same_sets_count_the_same()
     ensures count { (test : Replica → Bool) (a b : List Replica) → IsTrue (on_distinct_hosts a) → IsTrue (on_distinct_hosts b) → IsTrue (same_set a b) → count_by test a ≡ count_by test b }
     ensures size { (a b : List Replica) → IsTrue (on_distinct_hosts a) → IsTrue (on_distinct_hosts b) → IsTrue (same_set a b) → length a ≡ length b }
+{}
+
+/// In a list on distinct hosts below `n`, as many replicas are on hosts that pass a test as there
+/// are hosts below `n` that the list has and that pass it.
+pub fn law_counts_are_of_hosts()
+    ensures { (test : ℕ → Bool) (replicas : List Replica) (n : ℕ) → IsTrue (on_distinct_hosts replicas) → All (λ (replica : Replica). replica.host.0 < n) replicas → count_by (λ (replica : Replica). test replica.host.0) replicas ≡ hosts_below n (λ host. has_host replicas (record { 0 = host }) && test host) }
 {}
 
 /// How many replicas pass a test in the list with the pending replica behind it, and in the list
