@@ -49,7 +49,7 @@ lookup-alike f g h (e ∷ es) = ap (λ t. cond t (Some e.1) (lookup f es)) (h e.
 pub cell_at-same : (a b : Key) → same_key a b ≡ true → (cells : List (Key × Cell)) → cell_at cells a ≡ cell_at cells b
 cell_at-same a b h cells = lookup-alike (is_at_key a) (is_at_key b) (same-place a b h) cells
 
-none-below : (a : Option Cell) → a ≡ greater_cell a None
+pub none-below : (a : Option Cell) → a ≡ greater_cell a None
 none-below None = refl
 none-below (Some a) = refl
 

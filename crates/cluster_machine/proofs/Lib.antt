@@ -1,4 +1,9 @@
 pub mod CellLemmas
+pub mod CoordinatorLemmas
+pub mod HoldingLemmas
 pub mod LaneHistory
 pub mod LaneLemmas
 pub mod LaneTables
+pub mod LookupLemmas
+pub mod PushLemmas
+pub mod TiedLemmas

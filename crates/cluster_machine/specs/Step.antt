@@ -13,7 +13,7 @@ abbrev pub IsStep : Journal → Event → Result ℕ StepError → Journal → T
 IsStep before event (Ok number) after =
     (broken_after before event ≡ None) × (after ≡ with_event before event) × (number ≡ length after.entries)
 IsStep before event (Err (NotEnabled rule)) after = (broken_after before event ≡ Some rule) × (after ≡ before)
-IsStep before event (Err NoMemory) after = after ≡ before
+IsStep before event (Err NoMemory) after = (broken_after before event ≡ None) × (after ≡ before)
 
 -- no rule is broken, or this is the first one
 abbrev pub IsRuling : Option EventRule → Result (Unit {0}) EventRule → Type 0

@@ -1,0 +1,92 @@
+// The first rule that an event breaks.
+ghost use Rattle.std.specs.Prelude.{◌≡◌, reverse};
+ghost use Rattle.std.specs.Option.{option_copied};
+ghost use Rattle.cluster_history.specs.Names.{is_ask_to, is_answer_to};
+ghost use Rattle.cluster_history.specs.Legal.{begin_rule, message_rule, broken};
+ghost use Rattle.cluster_history.specs.declared.data.Opening.{Opening};
+
+use crate::lookup::output_at;
+use base_ids::{EventRule, HostId, LaneId, Version};
+use cluster_history::{Entry, Event, Message, Output};
+
+/// The version, the fence and the floor of every host: no topology command is built.
+pub const FIRST_VERSION: Version = Version(1);
+
+/// Whether the message is an ask addressed to the host.
+fn is_ask_to(host: HostId, message: &Message) -> bool
+    ensures { result ≡ is_ask_to host message.now }
+{
+    match message {
+        Message::Write(ask) => ask.to.host == host,
+        Message::Read(ask) => ask.to.host == host,
+        Message::Answer(_) => false,
+    }
+}
+
+/// Whether the message is an answer addressed to the lane.
+fn is_answer_to(lane: LaneId, message: &Message) -> bool
+    ensures { result ≡ is_answer_to lane message.now }
+{
+    match message {
+        Message::Write(_) | Message::Read(_) => false,
+        Message::Answer(answer) => answer.lane == lane,
+    }
+}
+
+/// The rule that a request of this version breaks, between the floor and the version of its host.
+fn begin_rule(version: Version, floor: Version, newest: Version) -> Option<EventRule>
+    ensures { result ≡ begin_rule version floor newest }
+{
+    if version.0 < floor.0 {
+        Some(EventRule::BelowFloor)
+    } else if newest.0 < version.0 {
+        Some(EventRule::AboveVersion)
+    } else {
+        None
+    }
+}
+
+/// The rule that a host's serving of this output breaks.
+fn serve_rule(host: HostId, output: Option<&Output>) -> Option<EventRule>
+    ensures { result ≡ message_rule (is_ask_to host) (option_copied output.entry) }
+{
+    match output {
+        None => Some(EventRule::NoMessage),
+        Some(Output::Reply { .. }) => Some(EventRule::WrongMessage),
+        Some(Output::Sent(message)) => {
+            if is_ask_to(host, message) {
+                None
+            } else {
+                Some(EventRule::WrongMessage)
+            }
+        }
+    }
+}
+
+/// The rule that a lane's taking of this output breaks.
+fn take_rule(lane: LaneId, output: Option<&Output>) -> Option<EventRule>
+    ensures { result ≡ message_rule (is_answer_to lane) (option_copied output.entry) }
+{
+    match output {
+        None => Some(EventRule::NoMessage),
+        Some(Output::Reply { .. }) => Some(EventRule::WrongMessage),
+        Some(Output::Sent(message)) => {
+            if is_answer_to(lane, message) {
+                None
+            } else {
+                Some(EventRule::WrongMessage)
+            }
+        }
+    }
+}
+
+/// The first rule that an event breaks after these entries, or none.
+pub fn broken(entries: &[Entry], event: &Event) -> Option<EventRule>
+    ensures { (opening : Opening) → result ≡ broken opening (reverse entries.now) event.now }
+{
+    match event {
+        Event::Begin { version, .. } => begin_rule(*version, FIRST_VERSION, FIRST_VERSION),
+        Event::Take { lane, at } => take_rule(*lane, output_at(entries, *at)),
+        Event::Serve { host, at } => serve_rule(*host, output_at(entries, *at)),
+    }
+}
