@@ -5,3 +5,4 @@ pub mod PutLemmas
 pub mod RangeLemmas
 pub mod StoreLemmas
 pub mod GatherLemmas
+pub mod MapLemmas

@@ -97,7 +97,7 @@ IsAfter-put_at (x ∷ xs) p first after before =
       ]
     ]
 
-IsAfter-below : (xs : Cells) (first second : ℕ) → first ≤ second → IsAfter second xs → IsAfter first xs
+pub IsAfter-below : (xs : Cells) (first second : ℕ) → first ≤ second → IsAfter second xs → IsAfter first xs
 IsAfter-below [] first second below after = tt
 IsAfter-below (x ∷ xs) first second below after = (let here : second < rank_of x = after.0 in omega arith, IsAfter-below xs first second below after.1)
 

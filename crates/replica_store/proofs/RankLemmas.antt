@@ -10,7 +10,7 @@ use Rattle.token_ring.specs.Ring.{IsToken, place}
 use Rattle.token_ring.specs.declared.token.Token.{Token}
 use Rattle.token_ring.specs.declared.ring.TokenRange.{TokenRange}
 use Rattle.replica_store.specs.declared.store.Stored.{Stored}
-use Rattle.replica_store.specs.Cells.{is_same, is_inside, is_above, rank, rank_of}
+use Rattle.replica_store.specs.Cells.{is_same, is_within, is_inside, is_above, rank, rank_of}
 use Rattle.replica_store.specs.Columns.{start_of, end_of}
 
 -- what belongs to a lower table comes first
@@ -65,10 +65,13 @@ between-rank a b first p last M first_below p_below last_below =
       ]
     ]
 
+pub is_within-rank : (table : TableId) (range : TokenRange) (t : TableId) (k : Token) → is_within table range t k ≡ (nat_le (rank table range.first) (rank t k) && nat_lt (rank t k) (end_of table range))
+is_within-rank table range t k =
+    rw (int_le-place range.first.value k.value range.first.is_token k.is_token, int_le-place k.value range.last.value k.is_token range.last.is_token)
+    (between-rank t.0 table.0 (place range.first.value) (place k.value) (place range.last.value) (2 ^ 64) (place_below range.first.value range.first.is_token) (place_below k.value k.is_token) (place_below range.last.value range.last.is_token))
+
 pub is_inside-rank : (table : TableId) (range : TokenRange) (e : TableId × Stored) → is_inside table range e ≡ (nat_le (rank table range.first) (rank_of e) && nat_lt (rank_of e) (end_of table range))
-is_inside-rank table range e =
-    rw (int_le-place range.first.value e.1.token.value range.first.is_token e.1.token.is_token, int_le-place e.1.token.value range.last.value e.1.token.is_token range.last.is_token)
-    (between-rank e.0.0 table.0 (place range.first.value) (place e.1.token.value) (place range.last.value) (2 ^ 64) (place_below range.first.value range.first.is_token) (place_below e.1.token.value e.1.token.is_token) (place_below range.last.value range.last.is_token))
+is_inside-rank table range e = is_within-rank table range e.0 e.1.token
 
 above-rank : (a b first p last after M : ℕ) → first < M → p < M → last < M → after < M → (((a == b) && (nat_le first p && nat_le p last)) && nat_lt after p) ≡ (nat_le (max (b * M + first) (b * M + after + 1)) (a * M + p) && nat_lt (a * M + p) (b * M + last + 1))
 above-rank a b first p last after M first_below p_below last_below after_below =

@@ -3,10 +3,12 @@
 
 mod columns;
 mod gathering;
+mod laws;
 mod store;
 mod vec_store;
 
 pub use gathering::gather;
+pub use laws::{law_one_list, law_outside};
 pub use store::{Chunk, Store, Stored, StoredList};
 pub use vec_store::VecStore;
 

@@ -1,5 +1,5 @@
 //! A store that is one sorted list.
-ghost use Rattle.std.specs.Prelude.{◌≡◌, ◌≢◌, ◌↔◌, ℕ, ◌+◌, ◌^◌, ◌<◌, ◌≤◌, [], length, take, IsTrue, OnOk, OnErr, Option, Some, None, option_map};
+ghost use Rattle.std.specs.Prelude.{◌≡◌, ◌≢◌, ◌↔◌, ℕ, ◌+◌, ◌^◌, ◌<◌, ◌≤◌, [], length, take, IsTrue, IsOk, OnOk, OnErr, Option, Some, None, option_map};
 ghost use Rattle.std.specs.Option.{option_copied};
 ghost use Rattle.base_ids.specs.declared.ids.TableId.{TableId};
 ghost use Rattle.replica_store.specs.Cells.{range_cells, IsOrdered};
@@ -108,7 +108,11 @@ impl Store for VecStore {
         columns::drop_range(&mut self.tables, &mut self.stored, table, range);
     }
 
-    fn regroup(&mut self, _table: TableId, _log2: u8) -> Result<(), NoMemory> {
+    /// Does nothing.
+    fn regroup(&mut self, _table: TableId, _log2: u8) -> Result<(), NoMemory>
+        ensures done { IsOk result }
+        ensures unchanged { self.new ≡ self.old }
+    {
         Ok(())
     }
 }
