@@ -16,3 +16,6 @@ pub use cluster_history::{
 };
 pub use machine::Machine;
 pub use step::StepError;
+
+#[cfg(test)]
+mod tests;
