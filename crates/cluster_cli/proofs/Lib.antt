@@ -1,3 +1,4 @@
 pub mod PlayLemmas
 pub mod TextCutLemmas
 pub mod TextCellLemmas
+pub mod TextHeaderLemmas

@@ -6,4 +6,5 @@ pub mod TextCells
 pub mod TextCuts
 pub mod TextEvents
 pub mod TextHeader
+pub mod TextLabels
 pub mod TextNumbers
