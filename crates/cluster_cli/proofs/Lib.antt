@@ -2,3 +2,4 @@ pub mod PlayLemmas
 pub mod TextCutLemmas
 pub mod TextCellLemmas
 pub mod TextHeaderLemmas
+pub mod TextLineLemmas

@@ -1,13 +1,19 @@
 // The reading of a schedule text.
 ghost use Rattle.std.specs.Prelude.{◌≡◌, codes};
+ghost use Rattle.cluster_cli.specs.Text.{reading, Gives};
 
 mod cells;
 mod cuts;
 mod events;
 mod header;
+mod lines;
 mod numbers;
 
+use crate::schedule::Schedule;
 use base_ids::NoMemory;
+use header::header_of;
+use lines::events_of;
+use std::alloc::Global;
 use thiserror::Error;
 
 /// What a line of a text is at fault in.
@@ -64,4 +70,23 @@ fn refused(line: u64) -> ParseError
         line,
         rule: TextRule::NotBuilt,
     }
+}
+
+/// Reads a schedule text.
+///
+/// Each line ends with LF, and words stand one space apart. The first five lines are `tablets 1`, `hosts N` with N from 1 to
+/// 64, `lanes K` with K from 1 to 4, `table T 0 R R R` with 1 to 8 replicas `H:0` on distinct hosts below N, and `go`. Each
+/// later line is `begin L write T TOKEN CELL`, `begin L read T TOKEN`, `serve H X.K` or `take L X.K`, with a label `LABEL:`
+/// before it or without. The form is this project's own.
+///
+/// `Refused` comes exactly where a line is of no such form, or the text ends before `go`; it names the first such line, or the
+/// count of lines plus 1. `NoMemory` comes where memory was refused.
+#[tactic(auto, unfolding(crate::specs::Text::reading))]
+pub fn parse(alloc: Global, bytes: &[u8]) -> Result<Schedule, ParseError>
+    // A schedule is given exactly where one is read, and it is that one; a line is refused exactly where it is at fault.
+    ensures { Gives (λ schedule. schedule) result (reading bytes.now) }
+{
+    let (opening, behind) = header_of(alloc, bytes)?;
+    let lines = events_of(alloc, &opening, behind)?;
+    Ok(Schedule { opening, lines })
 }
