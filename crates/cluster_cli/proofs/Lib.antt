@@ -3,3 +3,4 @@ pub mod TextCutLemmas
 pub mod TextCellLemmas
 pub mod TextHeaderLemmas
 pub mod TextLineLemmas
+pub mod TextPlayable

@@ -1,5 +1,6 @@
 // The reading of a schedule text.
-ghost use Rattle.std.specs.Prelude.{◌≡◌, codes};
+ghost use Rattle.std.specs.Prelude.{◌≡◌, codes, IfOk};
+ghost use Rattle.cluster_cli.specs.Schedule.{IsPlayable};
 ghost use Rattle.cluster_cli.specs.Text.{reading, Gives};
 
 mod cells;
@@ -72,6 +73,16 @@ fn refused(line: u64) -> ParseError
     }
 }
 
+/// The opening and the lines that a text gives.
+#[tactic(auto, unfolding(crate::specs::Text::reading))]
+fn read(alloc: Global, bytes: &[u8]) -> Result<Schedule, ParseError>
+    ensures { Gives (λ schedule. schedule) result (reading bytes.now) }
+{
+    let (opening, behind) = header_of(alloc, bytes)?;
+    let lines = events_of(alloc, &opening, behind)?;
+    Ok(Schedule { opening, lines })
+}
+
 /// Reads a schedule text.
 ///
 /// Each line ends with LF, and words stand one space apart. The first five lines are `tablets 1`, `hosts N` with N from 1 to
@@ -81,12 +92,11 @@ fn refused(line: u64) -> ParseError
 ///
 /// `Refused` comes exactly where a line is of no such form, or the text ends before `go`; it names the first such line, or the
 /// count of lines plus 1. `NoMemory` comes where memory was refused.
-#[tactic(auto, unfolding(crate::specs::Text::reading))]
 pub fn parse(alloc: Global, bytes: &[u8]) -> Result<Schedule, ParseError>
     // A schedule is given exactly where one is read, and it is that one; a line is refused exactly where it is at fault.
-    ensures { Gives (λ schedule. schedule) result (reading bytes.now) }
+    ensures exact { Gives (λ schedule. schedule) result (reading bytes.now) }
+    // What is read can be played.
+    ensures playable { IfOk result IsPlayable }
 {
-    let (opening, behind) = header_of(alloc, bytes)?;
-    let lines = events_of(alloc, &opening, behind)?;
-    Ok(Schedule { opening, lines })
+    read(alloc, bytes)
 }
