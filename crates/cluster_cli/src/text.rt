@@ -100,3 +100,6 @@ pub fn parse(alloc: Global, bytes: &[u8]) -> Result<Schedule, ParseError>
 {
     read(alloc, bytes)
 }
+
+#[cfg(test)]
+mod tests;
