@@ -1,6 +1,8 @@
 pub mod Play
+pub mod Program
 pub mod Report
 pub mod Schedule
+pub mod Status
 pub mod Text
 pub mod TextCells
 pub mod TextCuts

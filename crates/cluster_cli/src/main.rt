@@ -1,8 +1,10 @@
 #![tactic(auto)]
 
 mod play;
+mod program;
 mod report;
 mod schedule;
+mod status;
 mod text;
 
 fn main() {}
