@@ -25,7 +25,7 @@ pub after_held-line : (held0 held1 held2 : Option (List ℕ)) (lines : List (Lis
     → held1 ≡ after_held held0 (concat (take i lines)) → held2 ≡ after_held held1 line → held2 ≡ after_held held0 (concat (take (i + 1) lines))
 after_held-line held0 held1 held2 lines i line within is first then =
     let pieces : concat (take i lines) ++ line ≡ concat (take (i + 1) lines) =
-      rw (take-around lines i line within is, concat-append (take i lines) (line ∷ [])) (ap (λ l. concat (take i lines) ++ l) (sym (append-nil line)))
+    rw (take-around lines i line within is, concat-append (take i lines) (line ∷ [])) (ap (λ l. concat (take i lines) ++ l) (sym (append-nil line)))
     in then
     ∙ ap (λ held. after_held held line) first
     ∙ after_held-append held0 (concat (take i lines)) line
@@ -41,7 +41,7 @@ part-of-lines held0 held1 held2 lines i line within is first part =
     let all : concat lines ≡ before ++ (line ++ behind) = ap concat (around lines i line within is) ∙ concat-append (take i lines) (line ∷ drop (i + 1) lines) in
     let fits : n ≤ length line = omega (arith, part.1) in
     let taken : take (length before + n) (concat lines) ≡ before ++ take n line =
-      ap (take (length before + n)) all ∙ take-append-add before (line ++ behind) n ∙ ap (λ l. before ++ l) (take-append-le n line behind fits)
+    ap (take (length before + n)) all ∙ take-append-add before (line ++ behind) n ∙ ap (λ l. before ++ l) (take-append-le n line behind fits)
     in (
       length before + n,
       rw all (omega (arith, part.1, length-append before (line ++ behind), length-append line behind)),

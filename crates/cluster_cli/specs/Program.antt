@@ -15,7 +15,7 @@ use Rattle.cluster_history.specs.declared.data.Opening.{Opening}
 use Rattle.cluster_cli.specs.Play.{Played, Stop, played}
 use Rattle.cluster_cli.specs.Report.{reply_lines, report}
 use Rattle.cluster_cli.specs.Status.{status_number}
-use Rattle.cluster_cli.specs.Text.{TextFault, reading, text_rule_word}
+use Rattle.cluster_cli.specs.Text.{reading}
 use Rattle.cluster_cli.specs.declared.program.Outcome.{Outcome}
 use Rattle.cluster_cli.specs.declared.schedule.Schedule.{Schedule}
 use Rattle.cluster_cli.specs.declared.status.Status.{Status}
@@ -52,9 +52,9 @@ read_fault_ending = early ReadFault (codes "read-fault\n")
 abbrev pub limit_ending : Ending
 limit_ending = early Limit (codes "limit " ++ (limit_word Input ++ codes "\n"))
 
--- the text is refused at a line
-abbrev pub refused_line : TextFault → List ℕ
-refused_line fault = codes "refused line " ++ (decimal fault.line ++ (codes " " ++ (text_rule_word fault.rule ++ codes "\n")))
+-- the text is of no built form at a line
+abbrev pub refused_line : ℕ → List ℕ
+refused_line line = codes "refused line " ++ (decimal line ++ codes " NotBuilt\n")
 
 -- the event of a line is not enabled
 abbrev pub not_enabled_line : Stop → List ℕ
@@ -72,9 +72,9 @@ ending_at journal (Some stop) = record { status = NotEnabled; journal = journal;
 abbrev pub play_ending : Played → Ending
 play_ending whole = ending_at whole.journal whole.stop
 
-abbrev pub reading_ending : Result Schedule TextFault → Ending
+abbrev pub reading_ending : Result Schedule ℕ → Ending
 reading_ending (Ok schedule) = play_ending (played schedule)
-reading_ending (Err fault) = early Refused (refused_line fault)
+reading_ending (Err line) = early Refused (refused_line line)
 
 -- at most so many bytes are read
 abbrev pub input_limit : ℕ

@@ -10,7 +10,7 @@ ghost use Rattle.cluster_cli.specs.Program.{no_journal, refused_line, stopped_li
 ghost use Rattle.cluster_cli.specs.Report.{report};
 ghost use Rattle.cluster_cli.specs.Schedule.{IsPlayable};
 ghost use Rattle.cluster_cli.specs.Status.{status_number, status_after};
-ghost use Rattle.cluster_cli.specs.Text.{reading, TextFault};
+ghost use Rattle.cluster_cli.specs.Text.{reading};
 
 use crate::play::{PlayError, play};
 use crate::report::{self, LineList};
@@ -112,7 +112,7 @@ fn finish<K: Sink>(sink: &mut K, lines: &[Line], status: Status, journal: Journa
 
 /// The line that tells where a text is refused.
 fn refused_line(alloc: Global, line: u64, rule: TextRule) -> Result<Line, NoMemory>
-    ensures { IfOk result (λ text. text ≡ refused_line (record { line = line; rule = rule })) }
+    ensures { IfOk result (λ text. text ≡ refused_line line) }
 {
     let rule = rule.word();
     let text = format!(in alloc; "refused line {line} {rule}\n")?;
@@ -182,7 +182,7 @@ fn report_stop<K: Sink>(
 
 /// Writes where a text is refused.
 fn refuse<K: Sink>(alloc: Global, line: u64, rule: TextRule, sink: &mut K) -> Outcome
-    ensures came { CameTo (reading_ending (Err (record { line = line; rule = rule }))) result (K.held sink.old) (K.held sink.new) (K.faults sink.old) (K.faults sink.new) }
+    ensures came { CameTo (reading_ending (Err line)) result (K.held sink.old) (K.held sink.new) (K.faults sink.old) (K.faults sink.new) }
     ensures journal { result.journal ≡ no_journal }
     ensures later { K.faults sink.old ≤ K.faults sink.new }
 {
@@ -238,22 +238,6 @@ fn not_read<K: Sink>(alloc: Global, error: ReadError, sink: &mut K) -> Outcome
     }
 }
 
-/// Reads a source, plays its schedule and writes what came of it.
-fn play_source<S: Source, K: Sink>(alloc: Global, source: &mut S, sink: &mut K) -> Outcome
-    ensures legal { IsLegalRun result.journal }
-    ensures told { IfSome (S.left source.old) (λ text. Answers (ending_of text) result (S.faults source.old) (S.faults source.new) (K.held sink.old) (K.held sink.new) (K.faults sink.old) (K.faults sink.new)) }
-    ensures taken { (taken : List ℕ)
-        × TakesBytes (S.left source.old) (S.given source.old) (S.left source.new) (S.given source.new) taken
-        × Answers (ending_of taken) result (S.faults source.old) (S.faults source.new) (K.held sink.old) (K.held sink.new) (K.faults sink.old) (K.faults sink.new) }
-    ensures read_later { S.faults source.old ≤ S.faults source.new }
-    ensures write_later { K.faults sink.old ≤ K.faults sink.new }
-{
-    match read_all(alloc, source, INPUT_LIMIT) {
-        Ok(bytes) => play_text(alloc, bytes.as_slice(), sink),
-        Err(error) => not_read(alloc, error, sink),
-    }
-}
-
 /// Reads a schedule, plays it and writes its report. How it ends is a function of the text, which is what the source tells
 /// as its content, or else the bytes that it gives: with status 0 and the report; 3 and the line at fault; 4, the replies so
 /// far, and the line whose event is not enabled with the first rule that it breaks; or 7 where more than 4194304 bytes
@@ -275,5 +259,49 @@ pub fn play_main<S: Source, K: Sink>(alloc: Global, source: &mut S, sink: &mut K
     ensures read_later { S.faults source.old ≤ S.faults source.new }
     ensures write_later { K.faults sink.old ≤ K.faults sink.new }
 {
-    play_source(alloc, source, sink)
+    match read_all(alloc, source, INPUT_LIMIT) {
+        Ok(bytes) => play_text(alloc, bytes.as_slice(), sink),
+        Err(error) => not_read(alloc, error, sink),
+    }
+}
+
+/// Whether the words are the command `play`.
+fn is_play(words: &Words) -> bool
+    ensures { result ≡ is_play words.now }
+{
+    match words.as_slice() {
+        [word] => word.as_slice() == b"play".as_slice(),
+        _ => false,
+    }
+}
+
+/// Does what the words say: `play` is `play_main`, and other words give the usage line and status 2, whatever the source
+/// has; then nothing is read.
+pub fn cluster_main<S: Source, K: Sink>(
+    alloc: Global,
+    words: &Words,
+    source: &mut S,
+    sink: &mut K,
+) -> Outcome
+    ensures legal { IsLegalRun result.journal }
+
+    // What was to come of the words and the text came, but for a read fault, a failed write and want of memory.
+    ensures told { IfSome (S.left source.old) (λ text. Answers (command_ending words.now text) result (S.faults source.old) (S.faults source.new) (K.held sink.old) (K.held sink.new) (K.faults sink.old) (K.faults sink.new)) }
+    ensures taken { (taken : List ℕ)
+        × TakesBytes (S.left source.old) (S.given source.old) (S.left source.new) (S.given source.new) taken
+        × Answers (command_ending words.now taken) result (S.faults source.old) (S.faults source.new) (K.held sink.old) (K.held sink.new) (K.faults sink.old) (K.faults sink.new) }
+
+    // What follows of the statuses 0, 5 and 6.
+    ensures report { result.status ≡ 0 → K.held sink.new ≡ after_held (K.held sink.old) (concat (report result.journal)) }
+    ensures read_fault { result.status ≡ 5 → Rose (S.faults source.old) (S.faults source.new) }
+    ensures write_fault { result.status ≡ 6 → Rose (K.faults sink.old) (K.faults sink.new) }
+    ensures read_later { S.faults source.old ≤ S.faults source.new }
+    ensures write_later { K.faults sink.old ≤ K.faults sink.new }
+{
+    if is_play(words) {
+        play_main(alloc, source, sink)
+    } else {
+        let usage = b"usage: play | run | trace | gen N\n";
+        say(sink, usage, Status::Usage, no_journal(alloc))
+    }
 }

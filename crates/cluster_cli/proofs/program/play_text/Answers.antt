@@ -5,15 +5,15 @@ use Rattle.cluster_cli.proofs.program.play_text.Goals as goal
 pub returns-in-Err-Refused-clause-came : goal.returns-in-Err-Refused-clause-came
 returns-in-Err-Refused-clause-came g c =
     came-refused
-      c.in-Err-Refused.field-0
-      c.in-Err-Refused.line
-      c.in-Err-Refused.rule
-      (reading c.args.bytes.now)
-      _
-      _
-      _
-      _
-      _
-      c.in-Err-Refused.ensures.read
-      c.in-Err-Refused.field-0-is
-      c.refuse.ensures.came
+    c.in-Err-Refused.field-0
+    c.in-Err-Refused.line
+    c.in-Err-Refused.rule
+    (reading c.args.bytes.now)
+    _
+    _
+    _
+    _
+    _
+    c.in-Err-Refused.ensures.read
+    c.in-Err-Refused.field-0-is
+    c.refuse.ensures.came
