@@ -40,3 +40,6 @@ fn main(rt: HostRuntime) -> ExitCode {
     let outcome = cluster_main(rt.alloc(), &words, &mut source, &mut sink);
     ExitCode::from(outcome.status)
 }
+
+#[cfg(test)]
+mod tests;
