@@ -1,11 +1,13 @@
 -- What came of a call, where its ending is told in other words.
-use Rattle.std.proofs.Common.{◌≡◌, ℕ, List, Option, None, Some, Result, Err, refl, ap, sym, subst, arith, inl, false, if◌then◌else◌, []}
+use Rattle.std.proofs.Common.{◌≡◌, ℕ, List, Option, None, Some, Result, Err, refl, ap, sym, subst, arith, inl, inr, false, append-nil, if◌then◌else◌, []}
 use Rattle.std.specs.Option.{IfSome}
 use Rattle.fault_io.specs.Given.{TakesBytes}
+use Rattle.fault_io.specs.Held.{after_held}
 use Rattle.base_ids.specs.declared.rules.EventRule.{EventRule}
 use Rattle.cluster_history.specs.declared.data.Journal.{Journal}
 use Rattle.cluster_cli.specs.Play.{Played, IsPlay, played}
 use Rattle.cluster_cli.specs.Program.{Ending, no_journal, ending_at, play_ending, reading_ending, ending_of, usage_ending, command_ending, is_play, CameTo, Answers}
+use Rattle.cluster_cli.specs.Status.{status_number}
 use Rattle.cluster_cli.specs.Text.{Fails}
 use Rattle.cluster_cli.specs.declared.text.ParseError.{ParseError}
 use Rattle.cluster_cli.specs.declared.text.ParseError.TheVariants.{Refused as ParseRefused}
@@ -16,7 +18,7 @@ use Rattle.cluster_cli.specs.declared.play.PlayError.TheVariants.{NotEnabled as 
 use Rattle.cluster_cli.specs.declared.program.Outcome.{Outcome}
 use Rattle.cluster_cli.specs.declared.schedule.Schedule.{Schedule}
 use Rattle.cluster_cli.specs.declared.status.Status.{Status}
-use Rattle.cluster_cli.specs.declared.status.Status.TheVariants.{Usage}
+use Rattle.cluster_cli.specs.declared.status.Status.TheVariants.{Usage, NoMemory}
 
 -- an ending with an equal journal and equal bytes
 pub came-parts : (status : Status) (journal other : Journal) (bytes others : List ℕ) (outcome : Outcome) (h0 h1 : Option (List ℕ)) (f0 f1 : ℕ)
@@ -63,6 +65,18 @@ pub came-refused : (error : ParseError) (line : ℕ) (rule : TextRule) (read : R
 came-refused error line rule read outcome h0 h1 f0 f1 parsed is came =
     let P : Result Schedule ℕ → Type 0 = λ r. CameTo (reading_ending r) outcome h0 h1 f0 f1 in
     subst P (sym (refused-at error line rule read parsed is)) came
+
+-- ---- want of memory
+
+after_held-nothing : (held : Option (List ℕ)) → held ≡ after_held held []
+after_held-nothing None = refl
+after_held-nothing (Some bytes) = ap Some (sym (append-nil bytes))
+
+-- memory was refused before anything was written, whatever was to come
+pub came-starved : (ending : Ending) (journal : Journal) (outcome : Outcome) (held : Option (List ℕ)) (faults : ℕ)
+    → outcome ≡ record { status = status_number NoMemory; journal = journal } → CameTo ending outcome held held faults faults
+came-starved ending journal outcome held faults is =
+    inr (inr (record { status = ap (λ o. o.status) is; written = (0, omega arith, after_held-nothing held) }))
 
 -- ---- the words
 
