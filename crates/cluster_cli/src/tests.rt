@@ -2,9 +2,9 @@ use crate::program::{Words, cluster_main, play_main};
 use crate::report;
 use base_ids::{HostId, Items, LaneId, MsgRef, NoMemory, OpId, ReplicaList, TableId, Version};
 use cell_merge::{Body, Bytes64, Cell};
-use cluster_history::{Entry, Event, Journal, Opening, Output, OutputList};
+use cluster_history::{Entry, Event, Journal, Message, Opening, Output, OutputList};
 use fault_io::{MemorySink, MemorySource};
-use quorum_ops::Reply;
+use quorum_ops::{Answer, ReadAsk, Reply, Said, WriteAsk};
 use stage_graph::Kind;
 use std::alloc::Global;
 use std::process::Abort;
@@ -129,6 +129,8 @@ fn journal_of(alloc: Global, outputs: OutputList) -> Result<Journal, NoMemory> {
 
 #[test]
 fn each_reply_has_its_line(rt: HostRuntime) -> Result<(), Fail> {
+    // The check has to be told the types inside an output.
+    let _inside: Option<(&Message, &WriteAsk, &ReadAsk, &Answer, &Said)> = None;
     let alloc = rt.alloc();
     let live = Cell {
         timestamp: 7,

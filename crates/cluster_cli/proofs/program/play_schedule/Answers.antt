@@ -10,21 +10,21 @@ returns-in-Ok-play-clause-came g c =
 pub returns-in-Err-NotEnabled-clause-came : goal.returns-in-Err-NotEnabled-clause-came
 returns-in-Err-NotEnabled-clause-came g c =
     came-stopped
-      c.in-Err-NotEnabled.field-0
-      c.in-Err-NotEnabled.line
-      c.in-Err-NotEnabled.rule
-      (played c.args.schedule.now)
-      _
-      _
-      _
-      _
-      _
-      _
-      _
-      c.in-Err-NotEnabled.ensures
-      c.in-Err-NotEnabled.field-0-is
-      c.into_journal-in-Err-NotEnabled.ensures.same
-      c.report_stop.ensures.came
+    c.in-Err-NotEnabled.field-0
+    c.in-Err-NotEnabled.line
+    c.in-Err-NotEnabled.rule
+    (played c.args.schedule.now)
+    _
+    _
+    _
+    _
+    _
+    _
+    _
+    c.in-Err-NotEnabled.ensures
+    c.in-Err-NotEnabled.field-0-is
+    c.into_journal-in-Err-NotEnabled.ensures.same
+    c.report_stop.ensures.came
 
 pub returns-in-Err-NoMemory-clause-came : goal.returns-in-Err-NoMemory-clause-came
 returns-in-Err-NoMemory-clause-came g c =
