@@ -1,12 +1,12 @@
 // The commands of the program.
-ghost use Rattle.std.specs.Prelude.{◌≡◌, ℕ, ◌≤◌, List, length, IfSome, IfOk, OnOk, OnErr};
+ghost use Rattle.std.specs.Prelude.{◌≡◌, ℕ, ◌≤◌, List, length, IfSome, IfOk, OnOk, OnErr, false};
 ghost use Rattle.std.specs.List.{concat};
 ghost use Rattle.fault_io.specs.Counts.{Rose};
 ghost use Rattle.fault_io.specs.Given.{TakesBytes};
 ghost use Rattle.fault_io.specs.Held.{after_held, AddsPart};
 ghost use Rattle.cluster_history.specs.Legal.{IsLegalRun, opening_journal};
 ghost use Rattle.cluster_cli.specs.Play.{Stop, played};
-ghost use Rattle.cluster_cli.specs.Program.{no_journal, refused_line, stopped_lines, play_ending, reading_ending, ending_of, command_ending, is_play, CameTo, CameToError, Answers};
+ghost use Rattle.cluster_cli.specs.Program.{no_journal, refused_line, stopped_lines, play_ending, reading_ending, ending_of, command_ending, usage_ending, is_play, CameTo, CameToError, Answers};
 ghost use Rattle.cluster_cli.specs.Report.{report};
 ghost use Rattle.cluster_cli.specs.Schedule.{IsPlayable};
 ghost use Rattle.cluster_cli.specs.Status.{status_number, status_after};
@@ -284,6 +284,10 @@ pub fn cluster_main<S: Source, K: Sink>(
     sink: &mut K,
 ) -> Outcome
     ensures legal { IsLegalRun result.journal }
+
+    // Words that are no command give the usage line, and nothing is read.
+    ensures usage { is_play words.now ≡ false → CameTo usage_ending result (K.held sink.old) (K.held sink.new) (K.faults sink.old) (K.faults sink.new) }
+    ensures unread { is_play words.now ≡ false → (S.left source.new ≡ S.left source.old) × (S.given source.new ≡ S.given source.old) × (S.faults source.new ≡ S.faults source.old) }
 
     // What was to come of the words and the text came, but for a read fault, a failed write and want of memory.
     ensures told { IfSome (S.left source.old) (λ text. Answers (command_ending words.now text) result (S.faults source.old) (S.faults source.new) (K.held sink.old) (K.held sink.new) (K.faults sink.old) (K.faults sink.new)) }
