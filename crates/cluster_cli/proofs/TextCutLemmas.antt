@@ -1,5 +1,5 @@
 -- A first cut, and the lines or pieces that follow it.
-use Rattle.std.proofs.Common.{◌≡◌, ℕ, zero, suc, ◌+◌, ◌-◌, ◌<◌, ◌==◌, not, Bool, true, false, cond, nat_lt, List, [], ◌∷◌, length, take, drop, Option, Some, None, refl, sym, ap, ◌∙◌, arith}
+use Rattle.std.proofs.Common.{◌≡◌, ℕ, zero, suc, ◌+◌, ◌-◌, ◌<◌, ◌==◌, not, Bool, true, false, cond, nat_lt, List, [], ◌∷◌, length, take, drop, Option, Some, None, refl, sym, ap, subst, ◌∙◌, arith}
 use Rattle.std.specs.List.{position, position_or_len}
 use Rattle.std.specs.Option.{option_map}
 use Rattle.std.proofs.lemmas.Option.{some_pair_parts}
@@ -109,9 +109,17 @@ more_pieces piece separator bytes =
     rw (cut_pieces separator bytes)
     (elim (cut_at separator bytes) as (λ t. None ≡ only_of (piece ∷ pieces_by separator bytes t)) [ None ↦ refl | Some cut ↦ refl ])
 
-first_is : (pieces : List (List ℕ)) (piece : List ℕ) (others : List (List ℕ)) → Some (piece, others) ≡ first_of pieces → piece ∷ others ≡ pieces
+pub first_is : (pieces : List (List ℕ)) (piece : List ℕ) (others : List (List ℕ)) → Some (piece, others) ≡ first_of pieces → piece ∷ others ≡ pieces
 first_is [] piece others e = cc
 first_is (x ∷ xs) piece others e = let p : (piece ≡ x) × (others ≡ xs) = some_pair_parts piece x others xs e in cc
 
 pub not_only : (pieces : List (List ℕ)) (piece : List ℕ) (separator : ℕ) (bytes : List ℕ) → Some (piece, pieces_of separator bytes) ≡ first_of pieces → None ≡ only_of pieces
 not_only pieces piece separator bytes e = more_pieces piece separator bytes ∙ ap only_of (first_is pieces piece (pieces_of separator bytes) e)
+
+pub fewer_pieces : (pieces : List (List ℕ)) (piece : List ℕ) (others : List (List ℕ)) → Some (piece, others) ≡ first_of pieces → length others < length pieces
+fewer_pieces pieces piece others e =
+    let P : List (List ℕ) → Type 0 = λ xs. length others < length xs in subst P (first_is pieces piece others e) (omega arith)
+
+pub no_pieces : (pieces : List (List ℕ)) → None ≡ first_of pieces → [] ≡ pieces
+no_pieces [] e = refl
+no_pieces (x ∷ xs) e = cc

@@ -1,9 +1,12 @@
 pub mod Play
+pub mod Program
 pub mod Report
 pub mod Schedule
+pub mod Status
 pub mod Text
 pub mod TextCells
 pub mod TextCuts
 pub mod TextEvents
 pub mod TextHeader
+pub mod TextLabels
 pub mod TextNumbers

@@ -32,7 +32,7 @@ NamesIn earlier (Begin lane operation version) = Unit {0}
 NamesIn earlier (Take lane at) = IsNamedIn earlier at
 NamesIn earlier (Serve host at) = IsNamedIn earlier at
 
--- a number above that of the last of these lines, of which the newest stands first
+-- a number above that of the last of these lines, of which the newest stands first; the first number is at least 1
 abbrev pub IsBelowNumber : List SchedLine → ℕ → Type 0
 IsBelowNumber [] number = 0 < number
 IsBelowNumber (last ∷ earlier) number = last.line < number

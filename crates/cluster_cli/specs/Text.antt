@@ -4,8 +4,11 @@ use Rattle.cluster_history.specs.declared.data.Opening.{Opening}
 use Rattle.cluster_cli.specs.declared.schedule.Schedule.{Schedule}
 use Rattle.cluster_cli.specs.declared.schedule.SchedLine.{SchedLine}
 use Rattle.cluster_cli.specs.declared.schedule.LineAct.TheVariants.{Event}
+use Rattle.cluster_cli.specs.declared.text.ParseError.{ParseError}
+use Rattle.cluster_cli.specs.declared.text.ParseError.TheVariants.{Refused, NoMemory}
+use Rattle.cluster_cli.specs.declared.text.TextRule.TheVariants.{NotBuilt}
 use Rattle.cluster_cli.specs.TextCuts.{lines_of}
-use Rattle.cluster_cli.specs.TextHeader.{literal_of, hosts_of, lanes_of, table_of, first_as}
+use Rattle.cluster_cli.specs.TextHeader.{hosts_of, lanes_of, table_of, after_line, first_as}
 use Rattle.cluster_cli.specs.TextEvents.{line_of, with_label}
 
 -- one step after another, up to the first fault
@@ -22,12 +25,12 @@ at_line number (Some x) = Ok x
 -- the opening that the first five lines give, and the lines behind them
 unfoldable pub header_of : List (Option (List ℕ)) → Result (Opening × List (Option (List ℕ))) ℕ
 header_of lines = do
-  tablets ← at_line 1 (first_as (literal_of (codes "tablets 1")) lines)
-  hosts ← at_line 2 (first_as hosts_of tablets.1)
+  behind ← at_line 1 (after_line (codes "tablets 1") lines)
+  hosts ← at_line 2 (first_as hosts_of behind)
   lanes ← at_line 3 (first_as lanes_of hosts.1)
   table ← at_line 4 (first_as (table_of hosts.0) lanes.1)
-  go ← at_line 5 (first_as (literal_of (codes "go")) table.1)
-  Ok (record { hosts = hosts.0; lanes = lanes.0; table = table.0.0; replicas = table.0.1 }, go.1)
+  events ← at_line 5 (after_line (codes "go") table.1)
+  Ok (record { hosts = hosts.0; lanes = lanes.0; table = table.0.0; replicas = table.0.1 }, events)
 
 -- the lines to play, of which the first has this number, where `named` tells the line that has a label
 abbrev pub events_of : Opening → (List ℕ → Option ℕ) → ℕ → List (Option (List ℕ)) → Result (List SchedLine) ℕ
@@ -37,6 +40,15 @@ events_of opening named number (Some line ∷ lines) = do
   found ← at_line number (line_of opening named line)
   others ← events_of opening (with_label named found.0 number) (number + 1) lines
   Ok (record { line = number; act = Event found.1 } ∷ others)
+
+-- what the code gives is what is read, seen by view, unless memory was refused
+abbrev pub Fails : {Y : Type 0} → ParseError → Result Y ℕ → Type 0
+Fails (Refused line NotBuilt) read = read ≡ Err line
+Fails NoMemory read = Unit {0}
+
+abbrev pub Gives : {X Y : Type 0} → (X → Y) → Result X ParseError → Result Y ℕ → Type 0
+Gives view (Ok x) read = read ≡ Ok (view x)
+Gives view (Err e) read = Fails e read
 
 -- what a text says: a schedule, or the number of the line at fault
 unfoldable pub reading : List ℕ → Result Schedule ℕ

@@ -1,5 +1,5 @@
 -- The header: five lines that give the opening.
-use Rattle.std.specs.Prelude.{ℕ, ◌+◌, ◌^◌, ◌&&◌, nat_le, Bool, true, List, [], ◌∷◌, length, Option, Some, None, codes, if◌then◌else◌}
+use Rattle.std.specs.Prelude.{ℕ, ◌+◌, ◌^◌, ◌&&◌, nat_le, Bool, List, [], ◌∷◌, length, Option, Some, None, codes, if◌then◌else◌}
 use Rattle.std.specs.Str.{bytes_eq}
 use Rattle.base_ids.specs.declared.ids.Replica.{Replica}
 use Rattle.base_ids.specs.declared.ids.TableId.{TableId}
@@ -50,22 +50,30 @@ tablet_of hosts words = do
   replicas ← replicas_of hosts words
   if are_replicas replicas then Some replicas else None
 
--- table T 0 R R R
-unfoldable pub table_of : ℕ → List ℕ → Option (TableId × List Replica)
-table_of hosts line = do
+-- table T 0, and the words behind
+unfoldable pub table_start_of : List ℕ → Option (TableId × List (List ℕ))
+table_start_of line = do
   words ← after_word (codes "table") (words_of line)
   table ← first_of words
   number ← number_below (2 ^ 32) table.0
   places ← after_word (codes "0") table.1
-  replicas ← tablet_of hosts places
-  Some (record { 0 = number }, replicas)
+  Some (record { 0 = number }, places)
 
--- the line is this text
-abbrev pub literal_of : List ℕ → List ℕ → Option Bool
-literal_of text line = if bytes_eq line text then Some true else None
+-- table T 0 R R R
+unfoldable pub table_of : ℕ → List ℕ → Option (TableId × List Replica)
+table_of hosts line = do
+  start ← table_start_of line
+  replicas ← tablet_of hosts start.1
+  Some (start.0, replicas)
+
+-- the lines behind the first one, where it is this text
+unfoldable pub after_line : List ℕ → List (Option (List ℕ)) → Option (List (Option (List ℕ)))
+after_line text lines = do
+  line ← first_line lines
+  if bytes_eq line.0 text then Some line.1 else None
 
 -- the first line, read in this way, and the others
-abbrev pub first_as : {X : Type 0} → (List ℕ → Option X) → List (Option (List ℕ)) → Option (X × List (Option (List ℕ)))
+unfoldable pub first_as : {X : Type 0} → (List ℕ → Option X) → List (Option (List ℕ)) → Option (X × List (Option (List ℕ)))
 first_as read lines = do
   line ← first_line lines
   x ← read line.0

@@ -37,10 +37,3 @@ pub record IsValidOpening (opening : Opening) : Type 0 where
   pub few_replicas : length opening.replicas ≤ 8
   pub distinct : IsTrue (has_distinct_hosts opening.replicas)
   pub placed : All (IsPlacedBelow opening.hosts) opening.replicas
-
--- the opening of no cluster
-pub record IsEmptyOpening (opening : Opening) : Type 0 where
-  pub no_hosts : opening.hosts ≡ 0
-  pub no_lanes : opening.lanes ≡ 0
-  pub no_table : opening.table.0 ≡ 0
-  pub no_replicas : opening.replicas ≡ []

@@ -28,7 +28,8 @@ pub record Route : Type 0 where
   pub targets : List Replica
   pub need : ℕ
 
--- Where an operation goes at a version: to a quorum of the tablet's replicas, where the table is there.
+-- Where an operation goes at a version: to all replicas of the tablet, of which a quorum must answer, where the
+-- table is there.
 abbrev pub route_of : Opening → List Entry → Version → Operation → Option Route
 route_of opening past version operation =
     if (key_of operation).table.0 == opening.table.0 then Some (record { targets = opening.replicas; need = quorum (length opening.replicas) })

@@ -1,5 +1,5 @@
 -- The list as a map: what a dropped range leaves, and that the map tells the list.
-use Rattle.std.proofs.Common.{◌≡◌, ℕ, ◌<◌, ◌≤◌, ◌==◌, ◌&&◌, not, nat_lt, nat_le, Bool, true, false, cond, Option, Some, None, [], ◌∷◌, arith, refl, ap, sym, ◌∙◌, inl, inr}
+use Rattle.std.proofs.Common.{◌^◌, ◌≡◌, ℕ, ◌<◌, ◌≤◌, ◌==◌, ◌&&◌, not, nat_lt, nat_le, Bool, true, false, cond, Option, Some, None, [], ◌∷◌, arith, refl, ap, sym, ◌∙◌, inl, inr, map, filter}
 use Rattle.std.proofs.lemmas.Bool.{cases_lt}
 use Rattle.std.proofs.lemmas.Bool.Decides.{nat_tests, Decides-int_eq}
 use Rattle.std.proofs.Props.{props}
@@ -8,13 +8,13 @@ use Rattle.std.specs.Ordering.{int_eq}
 use Rattle.base_ids.specs.declared.ids.TableId.{TableId}
 use Rattle.token_ring.specs.declared.token.Token.{Token}
 use Rattle.token_ring.specs.declared.ring.TokenRange.{TokenRange}
-use Rattle.token_ring.specs.Ring.{IsToken}
+use Rattle.token_ring.specs.Ring.{IsToken, place}
 use Rattle.cell_merge.specs.declared.cell.Cell.{Cell}
 use Rattle.replica_store.specs.declared.store.Stored.{Stored}
-use Rattle.replica_store.specs.Cells.{Cells, IsOrdered, IsAfter, rank, rank_of, is_same, is_within, is_inside, cell_at, outside}
+use Rattle.replica_store.specs.Cells.{Cells, IsOrdered, IsAfter, rank, rank_of, is_same, is_within, is_inside, is_above, cell_at, outside, range_cells, stored_at, IsAllAbove, IsAscending}
 use Rattle.replica_store.specs.Columns.{end_of}
 use Rattle.replica_store.proofs.PutLemmas.{IsAfter-below}
-use Rattle.replica_store.proofs.RankLemmas.{is_same-rank, is_within-rank}
+use Rattle.replica_store.proofs.RankLemmas.{is_same-rank, is_within-rank, table_place, token_below}
 
 -- whether a token lies in a range is told by its rank
 same_within : (table : TableId) (range : TokenRange) (a : TableId) (j : Token) (b : TableId) (k : Token) → is_same a j b k ≡ true → is_within table range a j ≡ is_within table range b k
@@ -106,3 +106,57 @@ one_list (x ∷ xs) (y ∷ ys) ordered others same =
                   let not_y : is_same y.0 y.1.token t k ≡ false = is_same-rank y.0 y.1.token t k ∙ ap (λ r. r == rank t k) (sym ranks) ∙ sym (is_same-rank x.0 x.1.token t k) ∙ not_x in
                   rw (not_x, not_y) at (same t k)
             ] refl
+
+-- a stored cell of the asked token is wanted exactly where the token is
+wanted_same : (table : TableId) (range : TokenRange) (after : Option Token) (x : TableId × Stored) (k : Token) → x.0 ≡ table → x.1.token ≡ k → (is_inside table range x && is_above after x.1.token) ≡ (is_within table range table k && is_above after k)
+wanted_same table range after x k one_table one_token = ap (λ (e : TableId × Token). is_within table range e.0 e.1 && is_above after e.1) (λ i. (one_table i, one_token i))
+
+pub stored_at-range_cells : (xs : Cells) (table : TableId) (range : TokenRange) (after : Option Token) (k : Token) → stored_at (range_cells xs table range after) k ≡ cond (is_within table range table k && is_above after k) (cell_at xs table k) None
+stored_at-range_cells [] table range after k = elim (is_within table range table k && is_above after k) as (λ b. (let missing : Option Cell = None in missing) ≡ cond b None None) [ true ↦ refl | false ↦ refl ]
+stored_at-range_cells (x ∷ xs) table range after k =
+    elim (is_same x.0 x.1.token table k) as (λ b. is_same x.0 x.1.token table k ≡ b → stored_at (map (λ (e : TableId × Stored). e.1) (cond (is_inside table range x && is_above after x.1.token) (x ∷ wanted xs) (wanted xs))) k ≡ cond (is_within table range table k && is_above after k) (cond b (Some x.1.cell) (cell_at xs table k)) None) [
+      | true ↦ λ same.
+          let tests : (rank_of x == rank table k) ≡ true = sym (is_same-rank x.0 x.1.token table k) ∙ same in
+          let ranks : rank_of x ≡ rank table k = grind (arith, nat_tests) in
+          let place = one_place x.0 table x.1.token k ranks in
+          let both = wanted_same table range after x k place.0 place.1 in
+          let token : int_eq x.1.token.value k.value ≡ true = (Decides-int_eq x.1.token.value k.value).1 (λ i. (place.1 i).value) in
+          rw both (elim (is_within table range table k && is_above after k) as (λ b. (is_within table range table k && is_above after k) ≡ b → stored_at (map (λ (e : TableId × Stored). e.1) (cond b (x ∷ wanted xs) (wanted xs))) k ≡ cond b (Some x.1.cell) None) [
+            | true ↦ λ asked. rw token
+            | false ↦ λ other. stored_at-range_cells xs table range after k ∙ rw other
+          ] refl)
+      | false ↦ λ other.
+          elim (is_inside table range x && is_above after x.1.token) as (λ b. (is_inside table range x && is_above after x.1.token) ≡ b → stored_at (map (λ (e : TableId × Stored). e.1) (cond b (x ∷ wanted xs) (wanted xs))) k ≡ cond (is_within table range table k && is_above after k) (cell_at xs table k) None) [
+            | true ↦ λ asked.
+                let inside = both_true (is_inside table range x) (is_above after x.1.token) asked in
+                let tables = both_true (x.0.0 == table.0) _ inside.0 in
+                let token : int_eq x.1.token.value k.value ≡ false = rw tables.0 at other in
+                rw token (stored_at-range_cells xs table range after k)
+            | false ↦ λ _. stored_at-range_cells xs table range after k
+          ] refl
+    ] refl
+  where
+    wanted : Cells → Cells
+    wanted es = filter (λ e. is_inside table range e && is_above after e.1.token) es
+
+-- of one table, what stands after a place has a greater token
+above_after : (xs : Cells) (table : TableId) (range : TokenRange) (after : Option Token) (x : TableId × Stored) → is_inside table range x ≡ true → IsAfter (rank_of x) xs → IsAllAbove x.1.token (range_cells xs table range after)
+above_after [] table range after x inside behind = tt
+above_after (y ∷ ys) table range after x inside behind =
+    elim (is_inside table range y && is_above after y.1.token) as (λ b. (is_inside table range y && is_above after y.1.token) ≡ b → IsAllAbove x.1.token (map (λ (e : TableId × Stored). e.1) (cond b (y ∷ filter (λ e. is_inside table range e && is_above after e.1.token) ys) (filter (λ e. is_inside table range e && is_above after e.1.token) ys)))) [
+      | true ↦ λ asked.
+          let left = both_true (x.0.0 == table.0) _ inside in
+          let right = both_true (y.0.0 == table.0) _ (both_true (is_inside table range y) (is_above after y.1.token) asked).0 in
+          let one_table : x.0.0 ≡ y.0.0 = grind (arith, nat_tests, left.0, right.0) in
+          let lower : place x.1.token.value < place y.1.token.value = table_place x.0.0 y.0.0 (place x.1.token.value) (place y.1.token.value) (2 ^ 64) one_table behind.0 in
+          (token_below x.1.token y.1.token lower, above_after ys table range after x inside behind.1)
+      | false ↦ λ _. above_after ys table range after x inside behind.1
+    ] refl
+
+pub IsAscending-range_cells : (xs : Cells) (table : TableId) (range : TokenRange) (after : Option Token) → IsOrdered xs → IsAscending (range_cells xs table range after)
+IsAscending-range_cells [] table range after ordered = tt
+IsAscending-range_cells (x ∷ xs) table range after ordered =
+    elim (is_inside table range x && is_above after x.1.token) as (λ b. (is_inside table range x && is_above after x.1.token) ≡ b → IsAscending (map (λ (e : TableId × Stored). e.1) (cond b (x ∷ filter (λ e. is_inside table range e && is_above after e.1.token) xs) (filter (λ e. is_inside table range e && is_above after e.1.token) xs)))) [
+      | true ↦ λ asked. (above_after xs table range after x (both_true (is_inside table range x) (is_above after x.1.token) asked).0 ordered.0, IsAscending-range_cells xs table range after ordered.1)
+      | false ↦ λ _. IsAscending-range_cells xs table range after ordered.1
+    ] refl

@@ -1,5 +1,5 @@
 -- The rank of a place tells places apart, and puts the tables one after another.
-use Rattle.std.proofs.Common.{◌≡◌, ℕ, ◌+◌, ◌*◌, ◌^◌, ◌<◌, ◌≤◌, ◌==◌, ◌&&◌, Bool, true, false, nat_lt, nat_le, max, Option, None, Some, arith, inl, inr, refl, ◌∙◌, ℤ, pos, negsuc}
+use Rattle.std.proofs.Common.{◌≡◌, ℕ, ◌+◌, ◌*◌, ◌^◌, ◌<◌, ◌≤◌, ◌==◌, ◌&&◌, Bool, true, false, nat_lt, nat_le, max, Option, None, Some, arith, inl, inr, refl, ◌∙◌, ℤ, pos, negsuc, ap, ◌<ℤ◌}
 use Rattle.std.specs.Prelude.{int_le, int_lt}
 use Rattle.std.specs.Ordering.{int_eq}
 use Rattle.std.proofs.lemmas.Bool.{cases_lt}
@@ -93,3 +93,12 @@ is_wanted-rank table range None e = and-true (is_inside table range e) ∙ is_in
 is_wanted-rank table range (Some after) e =
     rw (int_le-place range.first.value e.1.token.value range.first.is_token e.1.token.is_token, int_le-place e.1.token.value range.last.value e.1.token.is_token range.last.is_token, int_lt-place after.value e.1.token.value after.is_token e.1.token.is_token)
     (above-rank e.0.0 table.0 (place range.first.value) (place e.1.token.value) (place range.last.value) (place after.value) (2 ^ 64) (place_below range.first.value range.first.is_token) (place_below e.1.token.value e.1.token.is_token) (place_below range.last.value range.last.is_token) (place_below after.value after.is_token))
+
+-- of one table, the lower rank has the lower token
+pub table_place : (a b p q M : ℕ) → a ≡ b → a * M + p < b * M + q → p < q
+table_place a b p q M same below = let tables : a * M ≡ b * M = ap (λ n. n * M) same in omega arith
+
+pub token_below : (a b : Token) → place a.value < place b.value → a.value <ℤ b.value
+token_below a b below =
+    let test : int_lt a.value b.value ≡ true = int_lt-place a.value b.value a.is_token b.is_token ∙ grind (arith, nat_tests) in
+    grind (arith, ints)

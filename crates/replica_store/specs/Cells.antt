@@ -1,5 +1,5 @@
 -- What a store holds: cells, in the order of their tables and within a table of their tokens.
-use Rattle.std.specs.Prelude.{ℕ, ◌+◌, ◌*◌, ◌^◌, ◌<◌, ◌==◌, ◌&&◌, Bool, true, not, int_le, int_lt, List, [], ◌∷◌, map, filter, Option, Some, None, if◌then◌else◌}
+use Rattle.std.specs.Prelude.{ℕ, ◌+◌, ◌*◌, ◌^◌, ◌<◌, ◌<ℤ◌, ◌==◌, ◌&&◌, Bool, true, not, int_le, int_lt, List, [], ◌∷◌, map, filter, Option, Some, None, if◌then◌else◌}
 use Rattle.std.specs.Ordering.{int_eq}
 use Rattle.base_ids.specs.declared.ids.TableId.{TableId}
 use Rattle.cell_merge.specs.declared.cell.Cell.{Cell}
@@ -61,3 +61,18 @@ range_cells cells table range after = map (λ e. e.1) (filter (λ e. is_inside t
 -- all but the cells of a range of a table
 abbrev pub outside : Cells → TableId → TokenRange → Cells
 outside cells table range = filter (λ e. not (is_inside table range e)) cells
+
+-- the cell of a token in a list of cells of one table
+abbrev pub stored_at : List Stored → Token → Option Cell
+stored_at [] token = None
+stored_at (s ∷ rest) token = if int_eq s.token.value token.value then Some s.cell else stored_at rest token
+
+-- all tokens are above this one
+abbrev pub IsAllAbove : Token → List Stored → Type 0
+IsAllAbove token [] = Unit {0}
+IsAllAbove token (s ∷ rest) = (token.value <ℤ s.token.value) × IsAllAbove token rest
+
+-- each token is below those that follow it
+abbrev pub IsAscending : List Stored → Type 0
+IsAscending [] = Unit {0}
+IsAscending (s ∷ rest) = IsAllAbove s.token rest × IsAscending rest

@@ -8,7 +8,7 @@ mod store;
 mod vec_store;
 
 pub use gathering::gather;
-pub use laws::{law_one_list, law_outside};
+pub use laws::{law_one_list, law_outside, law_range};
 pub use store::{Chunk, Store, Stored, StoredList};
 pub use vec_store::VecStore;
 

@@ -52,7 +52,8 @@ pub trait Store {
     fn put(&mut self, table: TableId, token: Token, cell: Cell)
         requires { 1 ≤ spare self.old }
         // each place has the greater one of its old cell and what was put there, and what was put is at its place alone
-        ensures map { (t : TableId) (k : Token) → cell_at (cells self.new) t k ≡ greater_cell (cell_at (cells self.old) t k) (only_at table token cell t k) }
+        ensures map { (t : TableId) (k : Token)
+            → cell_at (cells self.new) t k ≡ greater_cell (cell_at (cells self.old) t k) (only_at table token cell t k) }
         ensures ordered { IsOrdered (cells self.new) }
         ensures room { spare self.old ≤ spare self.new + 1 }
         ensures same_runs { (t : TableId) → runs self.new t ≡ runs self.old t };
@@ -72,12 +73,15 @@ pub trait Store {
         max: usize,
     ) -> Chunk<'_>
         requires { 1 ≤ max }
-        ensures prefix { result.cells.now ≡ take (length result.cells.now) (range_cells (cells self.now) table range after) }
+        ensures prefix { result.cells.now
+            ≡ take (length result.cells.now) (range_cells (cells self.now) table range after) }
         ensures most { length result.cells.now ≤ max }
         ensures some { result.cells.now ≡ [] → range_cells (cells self.now) table range after ≡ [] }
-        ensures more { IsTrue result.more ↔ (length result.cells.now < length (range_cells (cells self.now) table range after)) }
+        ensures more { IsTrue result.more
+            ↔ (length result.cells.now < length (range_cells (cells self.now) table range after)) }
         // the first `max`, where both ends of the range have one tablet, hence lie in one run
-        ensures full { (log2 : ℕ) → runs self.now table ≡ Some (2 ^ log2) → tablet_at log2 range.first.value ≡ tablet_at log2 range.last.value
+        ensures full { (log2 : ℕ) → runs self.now table ≡ Some (2 ^ log2)
+            → tablet_at log2 range.first.value ≡ tablet_at log2 range.last.value
             → result.cells.now ≡ take max (range_cells (cells self.now) table range after) }
         ensures ordered { IsOrdered (cells self.now) };
 

@@ -84,10 +84,12 @@ impl Store for VecStore {
     ) -> Chunk<'_>
         requires { 1 ≤ max }
         ensures first { result.cells.now ≡ take max (range_cells self.now.cells table range after) }
-        ensures prefix { result.cells.now ≡ take (length result.cells.now) (range_cells self.now.cells table range after) }
+        ensures prefix { result.cells.now
+            ≡ take (length result.cells.now) (range_cells self.now.cells table range after) }
         ensures most { length result.cells.now ≤ max }
         ensures some { result.cells.now ≡ [] → range_cells self.now.cells table range after ≡ [] }
-        ensures more { IsTrue result.more ↔ (length result.cells.now < length (range_cells self.now.cells table range after)) }
+        ensures more { IsTrue result.more
+            ↔ (length result.cells.now < length (range_cells self.now.cells table range after)) }
         ensures ordered { IsOrdered self.now.cells }
     {
         let cells = columns::range_of(

@@ -81,7 +81,8 @@ impl<P: Drop, O: Drop> RequestTable<P, O> {
     pub fn insert(&mut self, op: OpId, version: Version, held: P, work: O)
         requires fresh { request_of self.old.live op ≡ None }
         requires has_room { self.old.room ≡ Some op }
-        ensures live { self.new.live ≡ self.old.live ++ (op, record { version = version; held = held; work = work }) ∷ [] }
+        ensures live { self.new.live
+            ≡ self.old.live ++ (op, record { version = version; held = held; work = work }) ∷ [] }
         ensures room { self.new.room ≡ None }
     {
         let live = Live {

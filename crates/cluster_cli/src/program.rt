@@ -1,0 +1,311 @@
+// The commands of the program.
+ghost use Rattle.std.specs.Prelude.{◌≡◌, ℕ, ◌≤◌, List, length, IfSome, IfOk, OnOk, OnErr, false};
+ghost use Rattle.std.specs.List.{concat};
+ghost use Rattle.fault_io.specs.Counts.{Rose};
+ghost use Rattle.fault_io.specs.Given.{TakesBytes};
+ghost use Rattle.fault_io.specs.Held.{after_held, AddsPart};
+ghost use Rattle.cluster_history.specs.Legal.{IsLegalRun, opening_journal};
+ghost use Rattle.cluster_cli.specs.Play.{Stop, played};
+ghost use Rattle.cluster_cli.specs.Program.{no_journal, refused_line, stopped_lines, play_ending, reading_ending, ending_of, command_ending, usage_ending, is_play, CameTo, CameToError, Answers};
+ghost use Rattle.cluster_cli.specs.Report.{report};
+ghost use Rattle.cluster_cli.specs.Schedule.{IsPlayable};
+ghost use Rattle.cluster_cli.specs.Status.{status_number, status_after};
+ghost use Rattle.cluster_cli.specs.Text.{reading};
+
+use crate::play::{PlayError, play};
+use crate::report::{self, LineList};
+use crate::schedule::Schedule;
+use crate::status::Status;
+use crate::text::{ParseError, TextRule, parse};
+use base_ids::{EventRule, Items, Line, NoMemory, ReplicaList, TableId, Text};
+use cluster_history::{Journal, Opening};
+use cluster_machine::Machine;
+use fault_io::{ReadError, Sink, Source, WriteFault, read_all, write_all};
+use std::alloc::Global;
+
+/// The words of a command, after the program's name.
+pub type Words = Items<Text>;
+
+/// At most so many bytes are read.
+const INPUT_LIMIT: usize = 4194304;
+
+/// How a call of the program ended.
+#[derive(Debug, Drop)]
+pub struct Outcome {
+    /// The status with which the process ends.
+    pub status: u8,
+    /// What happened. Where no opening was reached, it has no hosts and no entries.
+    pub journal: Journal,
+}
+
+/// The journal where no opening was reached.
+fn no_journal(alloc: Global) -> Journal
+    ensures { result ≡ no_journal }
+{
+    Journal {
+        opening: Opening {
+            hosts: 0,
+            lanes: 0,
+            table: TableId(0),
+            replicas: ReplicaList::empty(alloc),
+        },
+        entries: Items::new(alloc),
+    }
+}
+
+/// The outcome where memory was refused.
+fn starved(journal: Journal) -> Outcome
+    ensures { result ≡ record { status = status_number Status.NoMemory; journal = journal } }
+{
+    Outcome {
+        status: Status::NoMemory.number(),
+        journal,
+    }
+}
+
+/// The outcome after the last write.
+fn ended(status: Status, journal: Journal, written: Result<(), WriteFault>) -> Outcome
+    ensures { result ≡ record { status = status_number (status_after status written); journal = journal } }
+{
+    let status = match written {
+        Ok(()) => status,
+        Err(WriteFault) => Status::WriteFault,
+    };
+    Outcome {
+        status: status.number(),
+        journal,
+    }
+}
+
+/// Writes one line, and ends so.
+fn say<K: Sink>(sink: &mut K, line: &[u8], status: Status, journal: Journal) -> Outcome
+    ensures came { CameTo (record { status = status; journal = journal; bytes = line.now }) result (K.held sink.old) (K.held sink.new) (K.faults sink.old) (K.faults sink.new) }
+    ensures journal { result.journal ≡ journal }
+    ensures later { K.faults sink.old ≤ K.faults sink.new }
+{
+    let written = write_all(sink, line);
+    ended(status, journal, written)
+}
+
+/// Writes the lines one after the other.
+fn write_lines<K: Sink>(sink: &mut K, lines: &[Line]) -> Result<(), WriteFault>
+    ensures whole { OnOk result (K.held sink.new ≡ after_held (K.held sink.old) (concat lines.now)) }
+    ensures part { OnErr result (AddsPart (K.held sink.old) (K.held sink.new) (concat lines.now)) }
+    ensures later { K.faults sink.old ≤ K.faults sink.new }
+    ensures cause { OnErr result (Rose (K.faults sink.old) (K.faults sink.new)) }
+{
+    for line in lines {
+        write_all(sink, line.as_slice())?;
+    }
+    Ok(())
+}
+
+/// Writes the lines, and ends so.
+fn finish<K: Sink>(sink: &mut K, lines: &[Line], status: Status, journal: Journal) -> Outcome
+    ensures came { CameTo (record { status = status; journal = journal; bytes = concat lines.now }) result (K.held sink.old) (K.held sink.new) (K.faults sink.old) (K.faults sink.new) }
+    ensures journal { result.journal ≡ journal }
+    ensures later { K.faults sink.old ≤ K.faults sink.new }
+{
+    let written = write_lines(sink, lines);
+    ended(status, journal, written)
+}
+
+/// The line that tells where a text is refused.
+fn refused_line(alloc: Global, line: u64, rule: TextRule) -> Result<Line, NoMemory>
+    ensures { IfOk result (λ text. text ≡ refused_line line) }
+{
+    let rule = rule.word();
+    let text = format!(in alloc; "refused line {line} {rule}\n")?;
+    Ok(Items::from_vec(text.into_bytes()))
+}
+
+/// The lines of a play that stopped at an event that is not enabled.
+fn stopped_lines(
+    alloc: Global,
+    journal: &Journal,
+    line: u64,
+    rule: EventRule,
+) -> Result<LineList, NoMemory>
+    ensures { IfOk result (λ lines. lines ≡ stopped_lines journal.now (record { line = line; rule = rule })) }
+{
+    let mut lines = report::reply_lines(alloc, journal)?;
+    let rule = rule.word();
+    let last = format!(in alloc; "not-enabled line {line} {rule}\n")?;
+    lines.push(Items::from_vec(last.into_bytes()))?;
+    Ok(lines)
+}
+
+/// A machine with the schedule's opening.
+fn machine_of(alloc: Global, schedule: &Schedule) -> Result<Machine, NoMemory>
+    requires { IsPlayable schedule.now }
+    ensures { IfOk result (λ machine. machine ≡ opening_journal schedule.now.opening) }
+{
+    let opening = &schedule.opening;
+    let copy = Opening {
+        hosts: opening.hosts,
+        lanes: opening.lanes,
+        table: opening.table,
+        replicas: opening.replicas.clone_in(alloc)?,
+    };
+    Machine::new(alloc, copy)
+}
+
+/// Writes the report of a play to the schedule's end.
+fn report_whole<K: Sink>(alloc: Global, journal: Journal, sink: &mut K) -> Outcome
+    ensures came { CameTo (record { status = Status.Done; journal = journal; bytes = concat (report journal) }) result (K.held sink.old) (K.held sink.new) (K.faults sink.old) (K.faults sink.new) }
+    ensures journal { result.journal ≡ journal }
+    ensures later { K.faults sink.old ≤ K.faults sink.new }
+{
+    match report::lines(alloc, &journal) {
+        Ok(lines) => finish(sink, lines.as_slice(), Status::Done, journal),
+        Err(NoMemory) => starved(journal),
+    }
+}
+
+/// Writes the replies of a play that stopped at an event that is not enabled, and where it stopped.
+fn report_stop<K: Sink>(
+    alloc: Global,
+    journal: Journal,
+    line: u64,
+    rule: EventRule,
+    sink: &mut K,
+) -> Outcome
+    ensures came { CameTo (record { status = Status.NotEnabled; journal = journal; bytes = concat (stopped_lines journal (record { line = line; rule = rule })) }) result (K.held sink.old) (K.held sink.new) (K.faults sink.old) (K.faults sink.new) }
+    ensures journal { result.journal ≡ journal }
+    ensures later { K.faults sink.old ≤ K.faults sink.new }
+{
+    match stopped_lines(alloc, &journal, line, rule) {
+        Ok(lines) => finish(sink, lines.as_slice(), Status::NotEnabled, journal),
+        Err(NoMemory) => starved(journal),
+    }
+}
+
+/// Writes where a text is refused.
+fn refuse<K: Sink>(alloc: Global, line: u64, rule: TextRule, sink: &mut K) -> Outcome
+    ensures came { CameTo (reading_ending (Err line)) result (K.held sink.old) (K.held sink.new) (K.faults sink.old) (K.faults sink.new) }
+    ensures journal { result.journal ≡ no_journal }
+    ensures later { K.faults sink.old ≤ K.faults sink.new }
+{
+    match refused_line(alloc, line, rule) {
+        Ok(text) => say(sink, text.as_slice(), Status::Refused, no_journal(alloc)),
+        Err(NoMemory) => starved(no_journal(alloc)),
+    }
+}
+
+/// Plays a schedule and writes what came of it.
+fn play_schedule<K: Sink>(alloc: Global, schedule: &Schedule, sink: &mut K) -> Outcome
+    requires { IsPlayable schedule.now }
+    ensures came { CameTo (play_ending (played schedule.now)) result (K.held sink.old) (K.held sink.new) (K.faults sink.old) (K.faults sink.new) }
+    ensures legal { IsLegalRun result.journal }
+    ensures later { K.faults sink.old ≤ K.faults sink.new }
+{
+    let Ok(mut machine) = machine_of(alloc, schedule) else {
+        return starved(no_journal(alloc));
+    };
+    match play(alloc, schedule, &mut machine) {
+        Ok(()) => report_whole(alloc, machine.into_journal(), sink),
+        Err(PlayError::NotEnabled { line, rule }) => {
+            report_stop(alloc, machine.into_journal(), line, rule, sink)
+        }
+        Err(PlayError::NoMemory) => starved(machine.into_journal()),
+    }
+}
+
+/// Reads a text, plays its schedule and writes what came of it.
+fn play_text<K: Sink>(alloc: Global, bytes: &[u8], sink: &mut K) -> Outcome
+    ensures came { CameTo (reading_ending (reading bytes.now)) result (K.held sink.old) (K.held sink.new) (K.faults sink.old) (K.faults sink.new) }
+    ensures legal { IsLegalRun result.journal }
+    ensures later { K.faults sink.old ≤ K.faults sink.new }
+{
+    match parse(alloc, bytes) {
+        Ok(schedule) => play_schedule(alloc, &schedule, sink),
+        Err(ParseError::Refused { line, rule }) => refuse(alloc, line, rule, sink),
+        Err(ParseError::NoMemory) => starved(no_journal(alloc)),
+    }
+}
+
+/// Tells why a source was not read whole.
+fn not_read<K: Sink>(alloc: Global, error: ReadError, sink: &mut K) -> Outcome
+    ensures came { CameToError error result (K.held sink.old) (K.held sink.new) (K.faults sink.old) (K.faults sink.new) }
+    ensures journal { result.journal ≡ no_journal }
+    ensures later { K.faults sink.old ≤ K.faults sink.new }
+{
+    let journal = no_journal(alloc);
+    match error {
+        ReadError::ReadFault => say(sink, b"read-fault\n", Status::ReadFault, journal),
+        ReadError::TooLong => say(sink, b"limit input\n", Status::Limit, journal),
+        ReadError::NoMemory => starved(journal),
+    }
+}
+
+/// Reads a schedule, plays it and writes its report. How it ends is a function of the text, which is what the source tells
+/// as its content, or else the bytes that it gives: with status 0 and the report; 3 and the line at fault; 4, the replies so
+/// far, and the line whose event is not enabled with the first rule that it breaks; or 7 where more than 4194304 bytes
+/// come. A read fault gives 5, and wins over what the text says; a failed write gives 6 and leaves a part of what was to be
+/// written; want of memory may give 8 at any place, and then some of the first bytes were written.
+pub fn play_main<S: Source, K: Sink>(alloc: Global, source: &mut S, sink: &mut K) -> Outcome
+    ensures legal { IsLegalRun result.journal }
+
+    // What was to come of the text came, but for a read fault, a failed write and want of memory.
+    ensures told { IfSome (S.left source.old) (λ text. Answers (ending_of text) result (S.faults source.old) (S.faults source.new) (K.held sink.old) (K.held sink.new) (K.faults sink.old) (K.faults sink.new)) }
+    ensures taken { (taken : List ℕ)
+        × TakesBytes (S.left source.old) (S.given source.old) (S.left source.new) (S.given source.new) taken
+        × Answers (ending_of taken) result (S.faults source.old) (S.faults source.new) (K.held sink.old) (K.held sink.new) (K.faults sink.old) (K.faults sink.new) }
+
+    // What follows of the statuses 0, 5 and 6.
+    ensures report { result.status ≡ 0 → K.held sink.new ≡ after_held (K.held sink.old) (concat (report result.journal)) }
+    ensures read_fault { result.status ≡ 5 → Rose (S.faults source.old) (S.faults source.new) }
+    ensures write_fault { result.status ≡ 6 → Rose (K.faults sink.old) (K.faults sink.new) }
+    ensures read_later { S.faults source.old ≤ S.faults source.new }
+    ensures write_later { K.faults sink.old ≤ K.faults sink.new }
+{
+    match read_all(alloc, source, INPUT_LIMIT) {
+        Ok(bytes) => play_text(alloc, bytes.as_slice(), sink),
+        Err(error) => not_read(alloc, error, sink),
+    }
+}
+
+/// Whether the words are the command `play`.
+fn is_play(words: &Words) -> bool
+    ensures { result ≡ is_play words.now }
+{
+    match words.as_slice() {
+        [word] => word.as_slice() == b"play".as_slice(),
+        _ => false,
+    }
+}
+
+/// Does what the words say: `play` is `play_main`, and other words give the usage line and status 2, whatever the source
+/// has; then nothing is read.
+pub fn cluster_main<S: Source, K: Sink>(
+    alloc: Global,
+    words: &Words,
+    source: &mut S,
+    sink: &mut K,
+) -> Outcome
+    ensures legal { IsLegalRun result.journal }
+
+    // Words that are no command give the usage line, and nothing is read.
+    ensures usage { is_play words.now ≡ false → CameTo usage_ending result (K.held sink.old) (K.held sink.new) (K.faults sink.old) (K.faults sink.new) }
+    ensures unread { is_play words.now ≡ false → (S.left source.new ≡ S.left source.old) × (S.given source.new ≡ S.given source.old) × (S.faults source.new ≡ S.faults source.old) }
+
+    // What was to come of the words and the text came, but for a read fault, a failed write and want of memory.
+    ensures told { IfSome (S.left source.old) (λ text. Answers (command_ending words.now text) result (S.faults source.old) (S.faults source.new) (K.held sink.old) (K.held sink.new) (K.faults sink.old) (K.faults sink.new)) }
+    ensures taken { (taken : List ℕ)
+        × TakesBytes (S.left source.old) (S.given source.old) (S.left source.new) (S.given source.new) taken
+        × Answers (command_ending words.now taken) result (S.faults source.old) (S.faults source.new) (K.held sink.old) (K.held sink.new) (K.faults sink.old) (K.faults sink.new) }
+
+    // What follows of the statuses 0, 5 and 6.
+    ensures report { result.status ≡ 0 → K.held sink.new ≡ after_held (K.held sink.old) (concat (report result.journal)) }
+    ensures read_fault { result.status ≡ 5 → Rose (S.faults source.old) (S.faults source.new) }
+    ensures write_fault { result.status ≡ 6 → Rose (K.faults sink.old) (K.faults sink.new) }
+    ensures read_later { S.faults source.old ≤ S.faults source.new }
+    ensures write_later { K.faults sink.old ≤ K.faults sink.new }
+{
+    if is_play(words) {
+        play_main(alloc, source, sink)
+    } else {
+        let usage = b"usage: play | run | trace | gen N\n";
+        say(sink, usage, Status::Usage, no_journal(alloc))
+    }
+}

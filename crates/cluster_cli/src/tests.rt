@@ -1,0 +1,174 @@
+use crate::program::{Words, cluster_main, play_main};
+use crate::report;
+use base_ids::{HostId, Items, LaneId, MsgRef, NoMemory, OpId, ReplicaList, TableId, Version};
+use cell_merge::{Body, Bytes64, Cell};
+use cluster_history::{Entry, Event, Journal, Message, Opening, Output, OutputList};
+use fault_io::{MemorySink, MemorySource};
+use quorum_ops::{Answer, ReadAsk, Reply, Said, WriteAsk};
+use stage_graph::Kind;
+use std::alloc::Global;
+use std::process::Abort;
+use std::test::Fail;
+
+/// A write that two of three replicas acknowledge, and a read that finds it.
+const SCHEDULE: &[u8] = b"tablets 1\nhosts 3\nlanes 1\ntable 1 0 0:0 1:0 2:0\ngo\n\
+w: begin 0.0 write 1 5 live:10:61\na: serve 0 w.0\nb: serve 1 w.1\ntake 0.0 a.0\ntake 0.0 b.0\n\
+r: begin 2.0 read 1 5\nc: serve 1 r.1\nd: serve 2 r.2\ntake 2.0 c.0\ntake 2.0 d.0\n";
+
+/// Its report.
+const REPORT: &[u8] = b"reply 0.0 1 v1 write ok\nreply 2.0 1 v1 read ok live:10:61\n\
+end replies 2 log 0 version 1 fence 1\n";
+
+/// After one reply a lane takes a message that is no answer, in line 8.
+const STOPPED: &[u8] = b"tablets 1\nhosts 3\nlanes 1\ntable 1 0 0:0 1:0 2:0\ngo\n\
+begin 0.0 read 2 5\nw: begin 0.0 write 1 5 dead:-10:7\ntake 0.0 w.0\nbegin 0.0 read 2 5\n";
+
+/// Two replicas on one host, in line 4.
+const REFUSED: &[u8] = b"tablets 1\nhosts 3\nlanes 1\ntable 1 0 0:0 0:0\ngo\n";
+
+/// A source of these bytes in pieces of 7, of which one call fails; no call has the number 0.
+fn source(alloc: Global, text: &[u8], fails: u64) -> Result<MemorySource, NoMemory> {
+    let bytes = Vec::from_slice(alloc, text)?;
+    Ok(MemorySource::new(bytes, 7, vec![in alloc; fails]?))
+}
+
+/// Runs `cluster_main` and compares the status and what was written.
+fn check(
+    rt: &impl Abort,
+    alloc: Global,
+    word: &[u8],
+    source: &mut MemorySource,
+    write_fails: u64,
+    status: u8,
+    written: &[u8],
+) -> Result<(), NoMemory> {
+    let mut words: Words = Items::new(alloc);
+    words.push(Items::from_vec(Vec::from_slice(alloc, word)?))?;
+    let mut sink = MemorySink::new(alloc, 5, 4096, vec![in alloc; write_fails]?)?;
+    let outcome = cluster_main(alloc, &words, source, &mut sink);
+    assert_eq!(rt; outcome.status, status);
+    assert_eq!(rt; sink.content(), written);
+    Ok(())
+}
+
+#[test]
+fn each_status_comes_with_its_text(rt: HostRuntime) -> Result<(), Fail> {
+    let alloc = rt.alloc();
+    let good = &mut source(alloc, SCHEDULE, 0)?;
+    check(&rt, alloc, b"play", good, 0, 0, REPORT)?;
+    let usage = b"usage: play | run | trace | gen N\n";
+    check(&rt, alloc, b"plays", good, 0, 2, usage)?;
+    check(&rt, alloc, b"", good, 2, 6, b"usage")?;
+    let broken = &mut source(alloc, REFUSED, 0)?;
+    check(
+        &rt,
+        alloc,
+        b"play",
+        broken,
+        0,
+        3,
+        b"refused line 4 NotBuilt\n",
+    )?;
+    let stopped = &mut source(alloc, STOPPED, 0)?;
+    let lines = b"reply 0.0 1 v1 read notable\nnot-enabled line 8 WrongMessage\n";
+    check(&rt, alloc, b"play", stopped, 0, 4, lines)?;
+    let faulty = &mut source(alloc, SCHEDULE, 3)?;
+    check(&rt, alloc, b"play", faulty, 0, 5, b"read-fault\n")?;
+    let again = &mut source(alloc, SCHEDULE, 0)?;
+    check(
+        &rt,
+        alloc,
+        b"play",
+        again,
+        6,
+        6,
+        b"reply 0.0 1 v1 write ok\n",
+    )
+    .map_err(Fail::from)
+}
+
+#[test]
+fn one_byte_past_the_limit_is_refused(rt: HostRuntime) -> Result<(), Fail> {
+    let alloc = rt.alloc();
+    let bytes = vec![in alloc; 10; 4194305]?;
+    let mut source = MemorySource::new(bytes, 65536, Vec::new(alloc));
+    let mut sink = MemorySink::new(alloc, 64, 64, Vec::new(alloc))?;
+    let outcome = play_main(alloc, &mut source, &mut sink);
+    assert_eq!(rt; outcome.status, 7);
+    assert_eq!(rt; sink.content(), b"limit input\n".as_slice());
+    Ok(())
+}
+
+/// A reply to request 1 of a lane at version 2.
+fn told(kind: Kind, reply: Reply) -> Output {
+    Output::Reply {
+        op: OpId(1),
+        version: Version(2),
+        kind,
+        reply,
+    }
+}
+
+/// A journal of one entry, of lane 1 of host 3, with these outputs.
+fn journal_of(alloc: Global, outputs: OutputList) -> Result<Journal, NoMemory> {
+    let host = HostId(3);
+    let event = Event::Take {
+        lane: LaneId { host, lane: 1 },
+        at: MsgRef { event: 1, out: 0 },
+    };
+    let mut entries = Items::new(alloc);
+    entries.push(Entry { event, outputs })?;
+    let opening = Opening {
+        hosts: 0,
+        lanes: 0,
+        table: TableId(0),
+        replicas: ReplicaList::empty(alloc),
+    };
+    Ok(Journal { opening, entries })
+}
+
+#[test]
+fn each_reply_has_its_line(rt: HostRuntime) -> Result<(), Fail> {
+    // The check has to be told the types inside an output.
+    let _inside: Option<(&Message, &WriteAsk, &ReadAsk, &Answer, &Said)> = None;
+    let alloc = rt.alloc();
+    let live = Cell {
+        timestamp: 7,
+        body: Body::Live(Bytes64::new(b"\x0a\xff").ok_or("two bytes")?),
+    };
+    let dead = Cell {
+        timestamp: -5,
+        body: Body::Dead(6),
+    };
+    let fence = Version(4);
+    let stale = Reply::Stale { refused: 2, fence };
+    let timeout = Reply::Timeout {
+        answered: 1,
+        required: 2,
+    };
+    let mut outputs = Items::new(alloc);
+    for (kind, reply) in [
+        (Kind::Write, Reply::Ok),
+        (Kind::Read, Reply::Read(None)),
+        (Kind::Read, Reply::Read(Some(live))),
+        (Kind::Read, Reply::Read(Some(dead))),
+        (Kind::Write, stale),
+        (Kind::Read, timeout),
+        (Kind::Write, Reply::NoTable),
+        (Kind::Read, Reply::NotMember),
+    ] {
+        outputs.push(told(kind, reply))?;
+    }
+    let lines = report::lines(alloc, &journal_of(alloc, outputs)?)?;
+    let mut text = Vec::new(alloc);
+    for line in lines.as_slice() {
+        text.extend_from_slice(line.as_slice())?;
+    }
+    let wanted = b"reply 3.1 1 v2 write ok\nreply 3.1 1 v2 read ok none\n\
+reply 3.1 1 v2 read ok live:7:0aff\nreply 3.1 1 v2 read ok dead:-5:6\n\
+reply 3.1 1 v2 write stale 2 fence 4\nreply 3.1 1 v2 read timeout 1 of 2\n\
+reply 3.1 1 v2 write notable\nreply 3.1 1 v2 read notmember\n\
+end replies 8 log 0 version 1 fence 1\n";
+    assert_eq!(rt; text.as_slice(), wanted.as_slice());
+    Ok(())
+}
