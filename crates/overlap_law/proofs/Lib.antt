@@ -5,3 +5,4 @@ pub mod LegalLemmas
 pub mod SentLemmas
 pub mod SeenLemmas
 pub mod StoredLemmas
+pub mod SaidLemmas
