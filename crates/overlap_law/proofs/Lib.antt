@@ -6,3 +6,4 @@ pub mod SentLemmas
 pub mod SeenLemmas
 pub mod StoredLemmas
 pub mod SaidLemmas
+pub mod TakenLemmas
