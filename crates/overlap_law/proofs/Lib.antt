@@ -7,3 +7,5 @@ pub mod SeenLemmas
 pub mod StoredLemmas
 pub mod SaidLemmas
 pub mod TakenLemmas
+pub mod DecisionLemmas
+pub mod SettledLemmas
