@@ -9,3 +9,4 @@ pub mod SaidLemmas
 pub mod TakenLemmas
 pub mod DecisionLemmas
 pub mod SettledLemmas
+pub mod GoodLemmas
