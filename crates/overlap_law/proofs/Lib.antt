@@ -10,3 +10,4 @@ pub mod TakenLemmas
 pub mod DecisionLemmas
 pub mod SettledLemmas
 pub mod GoodLemmas
+pub mod RefineLemmas
