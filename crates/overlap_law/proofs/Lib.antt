@@ -11,3 +11,6 @@ pub mod DecisionLemmas
 pub mod SettledLemmas
 pub mod GoodLemmas
 pub mod RefineLemmas
+pub mod EntryLemmas
+pub mod UndecidedLemmas
+pub mod HeadlineLemmas

@@ -1,1 +1,2 @@
 pub mod ClientEvents
+pub mod Headline

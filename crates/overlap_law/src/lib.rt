@@ -3,4 +3,4 @@
 
 mod laws;
 
-pub use laws::law_refine;
+pub use laws::{law_headline, law_read_bound, law_refine, law_stale_below_fences, law_timeout_short};
