@@ -105,7 +105,7 @@ at_place : (events : List ClientEvent) (i j : ℕ) (a b : ClientEvent) → i ≡
 at_place events i j a b same p q = some_same a b (sym p ∙ ap (λ n. slice_get events n) same ∙ q)
 
 -- a request is begun as one thing
-begun_as : (events : List ClientEvent) (request : Named) (operation : Operation) (place : ℕ) (event : ClientEvent) → IsRegisterRun events → Began events request operation → Stands events place event → begun_by event ≡ Some request → begin_event request operation ≡ event
+pub begun_as : (events : List ClientEvent) (request : Named) (operation : Operation) (place : ℕ) (event : ClientEvent) → IsRegisterRun events → Began events request operation → Stands events place event → begun_by event ≡ Some request → begin_event request operation ≡ event
 begun_as events request operation place event run began stands begins =
     at_place events began.at place (begin_event request operation) event
     (run.begins_once began.at place request (record { event = begin_event request operation; stands = began.stands; begins = begin_begins request operation }) (record { event = event; stands = stands; begins = begins }))
