@@ -5,6 +5,8 @@ ghost use Rattle.fault_io.specs.Counts.{Rose};
 ghost use Rattle.fault_io.specs.Given.{TakesBytes};
 ghost use Rattle.fault_io.specs.Held.{after_held, AddsPart};
 ghost use Rattle.cluster_history.specs.Legal.{IsLegalRun, opening_journal};
+ghost use Rattle.register_model.specs.Register.{IsRegisterRun};
+ghost use Rattle.overlap_law.specs.ClientEvents.{client_events};
 ghost use Rattle.cluster_cli.specs.Play.{Stop, played};
 ghost use Rattle.cluster_cli.specs.Program.{no_journal, refused_line, stopped_lines, play_ending, reading_ending, ending_of, command_ending, usage_ending, is_play, CameTo, CameToError, Answers};
 ghost use Rattle.cluster_cli.specs.Report.{report};
@@ -21,6 +23,7 @@ use base_ids::{EventRule, Items, Line, NoMemory, ReplicaList, TableId, Text};
 use cluster_history::{Journal, Opening};
 use cluster_machine::Machine;
 use fault_io::{ReadError, Sink, Source, WriteFault, read_all, write_all};
+use overlap_law::law_refine;
 use std::alloc::Global;
 
 /// The words of a command, after the program's name.
@@ -245,6 +248,7 @@ fn not_read<K: Sink>(alloc: Global, error: ReadError, sink: &mut K) -> Outcome
 /// written; want of memory may give 8 at any place, and then some of the first bytes were written.
 pub fn play_main<S: Source, K: Sink>(alloc: Global, source: &mut S, sink: &mut K) -> Outcome
     ensures legal { IsLegalRun result.journal }
+    ensures register { IsRegisterRun (client_events result.journal) }
 
     // What was to come of the text came, but for a read fault, a failed write and want of memory.
     ensures told { IfSome (S.left source.old) (λ text. Answers (ending_of text) result (S.faults source.old) (S.faults source.new) (K.held sink.old) (K.held sink.new) (K.faults sink.old) (K.faults sink.new)) }
@@ -260,8 +264,16 @@ pub fn play_main<S: Source, K: Sink>(alloc: Global, source: &mut S, sink: &mut K
     ensures write_later { K.faults sink.old ≤ K.faults sink.new }
 {
     match read_all(alloc, source, INPUT_LIMIT) {
-        Ok(bytes) => play_text(alloc, bytes.as_slice(), sink),
-        Err(error) => not_read(alloc, error, sink),
+        Ok(bytes) => {
+            let outcome = play_text(alloc, bytes.as_slice(), sink);
+            law_refine(&outcome.journal);
+            outcome
+        }
+        Err(error) => {
+            let outcome = not_read(alloc, error, sink);
+            law_refine(&outcome.journal);
+            outcome
+        }
     }
 }
 
@@ -284,6 +296,7 @@ pub fn cluster_main<S: Source, K: Sink>(
     sink: &mut K,
 ) -> Outcome
     ensures legal { IsLegalRun result.journal }
+    ensures register { IsRegisterRun (client_events result.journal) }
 
     // Words that are no command give the usage line, and nothing is read.
     ensures usage { is_play words.now ≡ false → CameTo usage_ending result (K.held sink.old) (K.held sink.new) (K.faults sink.old) (K.faults sink.new) }
@@ -306,6 +319,8 @@ pub fn cluster_main<S: Source, K: Sink>(
         play_main(alloc, source, sink)
     } else {
         let usage = b"usage: play | run | trace | gen N\n";
-        say(sink, usage, Status::Usage, no_journal(alloc))
+        let outcome = say(sink, usage, Status::Usage, no_journal(alloc));
+        law_refine(&outcome.journal);
+        outcome
     }
 }

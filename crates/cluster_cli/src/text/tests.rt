@@ -146,7 +146,11 @@ fn the_first_line_at_fault_is_named(rt: HostRuntime) -> Result<(), Fail> {
         (HEADER, b"w: begin 0.0 read 7 5\nw: begin 0.0 read 7 5\n", 7),
         (HEADER, b"timeout 0.0\n", 6),
         (HEADER, b"timeout 0.0 18446744073709551616\n", 6),
-        (HEADER, b"w: begin 0.0 read 7 5\nt: timeout 0.0 1\ntimeout 0.1 1\n", 8),
+        (
+            HEADER,
+            b"w: begin 0.0 read 7 5\nt: timeout 0.0 1\ntimeout 0.1 1\n",
+            8,
+        ),
     ];
     for (front, behind, line) in texts {
         let text = whole(rt.alloc(), front, behind)?;
