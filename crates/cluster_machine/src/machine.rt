@@ -103,16 +103,23 @@ impl Machine {
         requires { HasActor self.now.opening event.now }
         ensures { IsRuling (broken_after self.now event.now) result }
     {
+        match self.broken(event) {
+            None => Ok(()),
+            Some(rule) => Err(rule),
+        }
+    }
+
+    /// The first rule that the event breaks after the journal so far, or none.
+    fn broken(&self, event: &Event) -> Option<EventRule>
+        requires { HasActor self.now.opening event.now }
+        ensures { result ≡ broken_after self.now event.now }
+    {
         let entries = self.journal.entries.as_slice();
-        let rule = match event {
+        match event {
             Event::Begin { lane, version, .. } => begin_breaks(self.lane(*lane), *version),
             Event::Take { lane, at } => take_breaks(entries, *lane, *at),
             Event::Timeout { lane, op } => timeout_breaks(self.lane(*lane), *op),
             Event::Serve { host, at } => serve_breaks(entries, *host, *at),
-        };
-        match rule {
-            None => Ok(()),
-            Some(rule) => Err(rule),
         }
     }
 

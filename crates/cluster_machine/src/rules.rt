@@ -40,12 +40,7 @@ fn is_answer_to(lane: LaneId, message: &Message) -> bool
 
 /// The rule that a request of this version breaks, between the floor and the version of its host, in a lane with so many
 /// live requests.
-fn begin_rule(
-    version: Version,
-    floor: Version,
-    newest: Version,
-    live: usize,
-) -> Option<EventRule>
+fn begin_rule(version: Version, floor: Version, newest: Version, live: usize) -> Option<EventRule>
     ensures { result ≡ begin_rule version floor newest live }
 {
     if version.0 < floor.0 {
