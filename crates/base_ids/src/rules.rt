@@ -11,10 +11,14 @@ pub enum EventRule {
     BelowFloor,
     /// The version of a begin is above the version of the lane's host.
     AboveVersion,
+    /// The lane of a begin has 8 live requests.
+    LaneFull,
     /// The journal has no such entry, or the entry no such output.
     NoMessage,
     /// The output is not of a kind that the event takes, or is addressed to another actor.
     WrongMessage,
+    /// The lane of a timeout has no such live request.
+    NoRequest,
 }
 
 impl EventRule {
@@ -25,8 +29,10 @@ impl EventRule {
         match self {
             EventRule::BelowFloor => "BelowFloor",
             EventRule::AboveVersion => "AboveVersion",
+            EventRule::LaneFull => "LaneFull",
             EventRule::NoMessage => "NoMessage",
             EventRule::WrongMessage => "WrongMessage",
+            EventRule::NoRequest => "NoRequest",
         }
     }
 }

@@ -1,7 +1,8 @@
 -- A text that is read gives a schedule that can be played.
-use Rattle.std.proofs.Common.{◌≡◌, ℕ, ◌+◌, ◌^◌, ◌<◌, ◌≤◌, ◌==◌, ◌&&◌, ◌||◌, Bool, true, false, cond, nat_lt, nat_le, List, [], ◌∷◌, length, Option, Some, None, Result, Ok, Err, IsTrue, codes, IfOk, is_some, eq-eqb, ◌⊎◌, inl, inr, refl, ap, subst, ◌∙◌, arith}
+use Rattle.std.proofs.Common.{◌≡◌, ℕ, ◌+◌, ◌^◌, ◌<◌, ◌≤◌, ◌==◌, ◌&&◌, ◌||◌, Bool, true, false, cond, nat_lt, nat_le, List, [], ◌∷◌, length, Option, Some, None, Result, Ok, Err, IsTrue, IfSome, codes, IfOk, is_some, eq-eqb, ◌⊎◌, inl, inr, refl, sym, ap, subst, ◌∙◌, arith}
 use Rattle.std.specs.Option.{option_and_then}
-use Rattle.std.specs.List.{All}
+use Rattle.std.specs.List.{All, list_any}
+use Rattle.std.specs.Map.{update}
 use Rattle.std.specs.Str.{bytes_eq}
 use Rattle.std.proofs.lemmas.Option.{cond_some, same_Some}
 use Rattle.std.proofs.lemmas.List.Elements.{All-cons}
@@ -11,6 +12,7 @@ use Rattle.base_ids.specs.declared.ids.LaneId.{LaneId}
 use Rattle.base_ids.specs.declared.ids.Replica.{Replica}
 use Rattle.base_ids.specs.declared.ids.TableId.{TableId}
 use Rattle.cluster_history.specs.declared.data.Opening.{Opening}
+use Rattle.cluster_history.specs.declared.data.Operation.{Operation}
 use Rattle.cluster_history.specs.Openings.{HasHost, HasLane, IsPlacedBelow, IsValidOpening, has_distinct_hosts}
 use Rattle.cluster_cli.specs.declared.schedule.Schedule.{Schedule}
 use Rattle.cluster_cli.specs.declared.schedule.SchedLine.{SchedLine}
@@ -18,12 +20,13 @@ use Rattle.cluster_cli.specs.declared.schedule.LineAct.TheVariants.{Event}
 use Rattle.cluster_cli.specs.declared.schedule.LineRef.{LineRef}
 use Rattle.cluster_cli.specs.declared.schedule.LineRef.TheVariants.{Line}
 use Rattle.cluster_cli.specs.declared.schedule.LineEvent.{LineEvent}
-use Rattle.cluster_cli.specs.declared.schedule.LineEvent.TheVariants.{Begin, Take, Serve}
-use Rattle.cluster_cli.specs.Schedule.{HasActorOf, has_event_at, IsNamedIn, NamesIn, IsBelowNumber, ArePlayable, IsPlayable}
+use Rattle.cluster_cli.specs.declared.schedule.LineEvent.TheVariants.{Begin, Take, Timeout, Serve}
+use Rattle.cluster_cli.specs.Schedule.{HasActorOf, has_event_at, IsNamedIn, NamesIn, IsBelowNumber, IsPlayableAct, IsPlayableLine, ArePlayable, IsPlayable}
 use Rattle.cluster_cli.specs.TextCuts.{words_of, at_colons, at_dots, first_of, only_of, after_word, first_line, lines_of}
 use Rattle.cluster_cli.specs.TextNumbers.{unsigned_of, number_below}
 use Rattle.cluster_cli.specs.TextHeader.{count_of, hosts_of, lanes_of, replica_of, replicas_of, are_replicas, tablet_of, table_start_of, table_of, after_line, first_as}
-use Rattle.cluster_cli.specs.TextEvents.{host_of, lane_of, label_of, reference_of, operation_of, begin_of, take_of, serve_of, event_of, unlabelled_of, labelled_of, by_label, line_of, with_label}
+use Rattle.cluster_cli.specs.TextEvents.{host_of, lane_of, label_of, reference_of, operation_of, begin_of, take_of, timeout_of, serve_of, event_of, unlabelled_of, labelled_of, by_label, line_of, with_label}
+use Rattle.cluster_cli.specs.TextCuts as cuts
 use Rattle.cluster_cli.specs.Text as text
 use Rattle.cluster_cli.specs.declared.text.ParseError.{ParseError}
 use Rattle.cluster_cli.specs.Text.{Gives, at_line, header_of, events_of, reading}
@@ -217,6 +220,15 @@ take_read opening named earlier knows words event e =
     let f = some_step (reference_of named b.0) _ event d.2 in
     subst (Stands opening earlier) (same_Some (Take d.0 f.0) event f.2) (lane_read opening a.0.0 d.0 d.1, reference_read named earlier knows b.0 f.0 f.1)
 
+timeout_read : (opening : Opening) (earlier : List SchedLine) (words : List (List ℕ)) (event : LineEvent) → timeout_of opening words ≡ Some event → Stands opening earlier event
+unfolding timeout_of
+timeout_read opening earlier words event e =
+    let a = some_step (first_of words) _ event e in
+    let b = some_step (only_of a.0.1) _ event a.2 in
+    let d = some_step (lane_of opening a.0.0) _ event b.2 in
+    let f = some_step (number_below (2 ^ 64) b.0) _ event d.2 in
+    subst (Stands opening earlier) (same_Some (Timeout d.0 (record { 0 = f.0 })) event f.2) (lane_read opening a.0.0 d.0 d.1, tt)
+
 serve_read : (opening : Opening) (named : List ℕ → Option ℕ) (earlier : List SchedLine) → Knows named earlier → (words : List (List ℕ)) (event : LineEvent) → serve_of opening named words ≡ Some event → Stands opening earlier event
 unfolding serve_of
 serve_read opening named earlier knows words event e =
@@ -238,8 +250,11 @@ event_read opening named earlier knows words event e =
       | inl p ↦ begin_read opening earlier a.0.1 event p
       | inr p ↦ elim (chosen (bytes_eq a.0.0 (codes "take")) (take_of opening named a.0.1) _ event p) [
         | inl q ↦ take_read opening named earlier knows a.0.1 event q
-        | inr q ↦ elim (chosen (bytes_eq a.0.0 (codes "serve")) (serve_of opening named a.0.1) None event q)
-            [ inl r ↦ serve_read opening named earlier knows a.0.1 event r | inr r ↦ cc ]
+        | inr q ↦ elim (chosen (bytes_eq a.0.0 (codes "timeout")) (timeout_of opening a.0.1) _ event q) [
+          | inl r ↦ timeout_read opening earlier a.0.1 event r
+          | inr r ↦ elim (chosen (bytes_eq a.0.0 (codes "serve")) (serve_of opening named a.0.1) None event r)
+              [ inl s ↦ serve_read opening named earlier knows a.0.1 event s | inr s ↦ cc ]
+        ]
       ]
     ]
 

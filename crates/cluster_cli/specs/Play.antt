@@ -10,7 +10,7 @@ use Rattle.cluster_history.specs.History.{version_of}
 use Rattle.cluster_history.specs.Legal.{broken_after, with_event, opening_journal}
 use Rattle.cluster_history.specs.declared.data.Entry.{Entry}
 use Rattle.cluster_history.specs.declared.data.Event.{Event}
-use Rattle.cluster_history.specs.declared.data.Event.TheVariants.{Begin, Take, Serve}
+use Rattle.cluster_history.specs.declared.data.Event.TheVariants.{Begin, Take, Timeout, Serve}
 use Rattle.cluster_history.specs.declared.data.Journal.{Journal}
 use Rattle.cluster_history.specs.declared.data.Opening.{Opening}
 use Rattle.cluster_cli.specs.Schedule.{HasActorOf}
@@ -21,7 +21,7 @@ use Rattle.cluster_cli.specs.declared.schedule.LineAct.TheVariants.{Event as One
 use Rattle.cluster_cli.specs.declared.schedule.LineRef.{LineRef}
 use Rattle.cluster_cli.specs.declared.schedule.LineRef.TheVariants.{Line}
 use Rattle.cluster_cli.specs.declared.schedule.LineEvent.{LineEvent}
-use Rattle.cluster_cli.specs.declared.schedule.LineEvent.TheVariants.{Begin as BeginLine, Take as TakeLine, Serve as ServeLine}
+use Rattle.cluster_cli.specs.declared.schedule.LineEvent.TheVariants.{Begin as BeginLine, Take as TakeLine, Timeout as TimeoutLine, Serve as ServeLine}
 use Rattle.cluster_cli.specs.declared.play.PlayError.{PlayError}
 use Rattle.cluster_cli.specs.declared.play.PlayError.TheVariants.{NotEnabled, NoMemory}
 
@@ -47,6 +47,7 @@ abbrev pub event_of : Places → Journal → LineEvent → Event
 event_of places journal (BeginLine lane operation version) =
     Begin lane operation (unwrap_or version (version_of journal.opening (reverse journal.entries) lane.host))
 event_of places journal (TakeLine lane at) = Take lane (message_ref places at)
+event_of places journal (TimeoutLine lane op) = Timeout lane op
 event_of places journal (ServeLine host at) = Serve host (message_ref places at)
 
 abbrev pub event_of_act : Places → Journal → LineAct → Event

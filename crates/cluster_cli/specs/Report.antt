@@ -12,10 +12,10 @@ use Rattle.cell_merge.specs.declared.cell.Body.TheVariants.{Live, Dead}
 use Rattle.stage_graph.specs.declared.kind.Kind.{Kind}
 use Rattle.stage_graph.specs.declared.kind.Kind.TheVariants.{Read as ReadKind, Write as WriteKind}
 use Rattle.quorum_ops.specs.declared.data.Reply.{Reply}
-use Rattle.quorum_ops.specs.declared.data.Reply.TheVariants.{Ok as Acknowledged, Read as Found, Stale, Timeout, NoTable, NotMember}
+use Rattle.quorum_ops.specs.declared.data.Reply.TheVariants.{Ok as Acknowledged, Read as Found, Stale, Timeout as TimedOut, NoTable, NotMember}
 use Rattle.cluster_history.specs.declared.data.Entry.{Entry}
 use Rattle.cluster_history.specs.declared.data.Event.{Event}
-use Rattle.cluster_history.specs.declared.data.Event.TheVariants.{Begin, Take, Serve}
+use Rattle.cluster_history.specs.declared.data.Event.TheVariants.{Begin, Take, Timeout, Serve}
 use Rattle.cluster_history.specs.declared.data.Journal.{Journal}
 use Rattle.cluster_history.specs.declared.data.Output.{Output}
 use Rattle.cluster_history.specs.declared.data.Output.TheVariants.{Sent, Reply as Replied}
@@ -38,7 +38,7 @@ abbrev pub result_text : Reply → List ℕ
 result_text Acknowledged = codes "ok"
 result_text (Found cell) = codes "ok " ++ found_text cell
 result_text (Stale refused fence) = codes "stale " ++ (decimal refused ++ (codes " fence " ++ decimal fence.0))
-result_text (Timeout answered required) = codes "timeout " ++ (decimal answered ++ (codes " of " ++ decimal required))
+result_text (TimedOut answered required) = codes "timeout " ++ (decimal answered ++ (codes " of " ++ decimal required))
 result_text NoTable = codes "notable"
 result_text NotMember = codes "notmember"
 
@@ -66,6 +66,7 @@ output_lines lane (Replied op version kind reply) = reply_line lane op version k
 abbrev pub event_lines : Event → List Output → List (List ℕ)
 event_lines (Begin lane operation version) outputs = flat_map (output_lines lane) outputs
 event_lines (Take lane at) outputs = flat_map (output_lines lane) outputs
+event_lines (Timeout lane op) outputs = flat_map (output_lines lane) outputs
 event_lines (Serve host at) outputs = []
 
 abbrev pub entry_lines : Entry → List (List ℕ)

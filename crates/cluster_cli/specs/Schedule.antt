@@ -10,12 +10,13 @@ use Rattle.cluster_cli.specs.declared.schedule.LineAct.TheVariants.{Event}
 use Rattle.cluster_cli.specs.declared.schedule.LineRef.{LineRef}
 use Rattle.cluster_cli.specs.declared.schedule.LineRef.TheVariants.{Line}
 use Rattle.cluster_cli.specs.declared.schedule.LineEvent.{LineEvent}
-use Rattle.cluster_cli.specs.declared.schedule.LineEvent.TheVariants.{Begin, Take, Serve}
+use Rattle.cluster_cli.specs.declared.schedule.LineEvent.TheVariants.{Begin, Take, Timeout, Serve}
 
 -- the lane or the host whose event it is stands in the opening
 abbrev pub HasActorOf : Opening → LineEvent → Type 0
 HasActorOf opening (Begin lane operation version) = HasLane opening lane
 HasActorOf opening (Take lane at) = HasLane opening lane
+HasActorOf opening (Timeout lane op) = HasLane opening lane
 HasActorOf opening (Serve host at) = HasHost opening host
 
 -- one of these lines, each of which is one event, has this number
@@ -30,6 +31,7 @@ IsNamedIn earlier (Line line out) = IsTrue (has_event_at earlier line)
 abbrev pub NamesIn : List SchedLine → LineEvent → Type 0
 NamesIn earlier (Begin lane operation version) = Unit {0}
 NamesIn earlier (Take lane at) = IsNamedIn earlier at
+NamesIn earlier (Timeout lane op) = Unit {0}
 NamesIn earlier (Serve host at) = IsNamedIn earlier at
 
 -- a number above that of the last of these lines, of which the newest stands first; the first number is at least 1

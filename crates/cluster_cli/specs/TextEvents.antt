@@ -5,6 +5,7 @@ use Rattle.std.specs.Map.{update}
 use Rattle.std.specs.Str.{bytes_eq}
 use Rattle.base_ids.specs.declared.ids.HostId.{HostId}
 use Rattle.base_ids.specs.declared.ids.LaneId.{LaneId}
+use Rattle.base_ids.specs.declared.ids.OpId.{OpId}
 use Rattle.base_ids.specs.declared.ids.TableId.{TableId}
 use Rattle.token_ring.specs.declared.token.Token.{Token}
 use Rattle.cluster_history.specs.declared.data.Opening.{Opening}
@@ -13,7 +14,7 @@ use Rattle.cluster_history.specs.declared.data.Operation.TheVariants.{Write, Rea
 use Rattle.cluster_cli.specs.declared.schedule.LineRef.{LineRef}
 use Rattle.cluster_cli.specs.declared.schedule.LineRef.TheVariants.{Line}
 use Rattle.cluster_cli.specs.declared.schedule.LineEvent.{LineEvent}
-use Rattle.cluster_cli.specs.declared.schedule.LineEvent.TheVariants.{Begin, Take, Serve}
+use Rattle.cluster_cli.specs.declared.schedule.LineEvent.TheVariants.{Begin, Take, Timeout, Serve}
 use Rattle.cluster_cli.specs.TextCuts.{◌>>=◌, words_of, at_colons, at_dots, first_of, only_of}
 use Rattle.cluster_cli.specs.TextNumbers.{number_below}
 use Rattle.cluster_cli.specs.TextCells.{token_of, cell_of}
@@ -103,6 +104,15 @@ take_of opening named words = do
   at ← reference_of named last
   Some (Take lane at)
 
+-- L OP
+unfoldable pub timeout_of : Opening → List (List ℕ) → Option LineEvent
+timeout_of opening words = do
+  word ← first_of words
+  last ← only_of word.1
+  lane ← lane_of opening word.0
+  op ← number_below (2 ^ 64) last
+  Some (Timeout lane (record { 0 = op }))
+
 -- H X.K
 unfoldable pub serve_of : Opening → (List ℕ → Option ℕ) → List (List ℕ) → Option LineEvent
 serve_of opening named words = do
@@ -118,7 +128,8 @@ event_of opening named words = do
   verb ← first_of words
   if bytes_eq verb.0 (codes "begin") then begin_of opening verb.1
       else (if bytes_eq verb.0 (codes "take") then take_of opening named verb.1
-      else (if bytes_eq verb.0 (codes "serve") then serve_of opening named verb.1 else None))
+      else (if bytes_eq verb.0 (codes "timeout") then timeout_of opening verb.1
+      else (if bytes_eq verb.0 (codes "serve") then serve_of opening named verb.1 else None)))
 
 -- a line without a label, or with one that no earlier line has, by all of its words and those behind the first
 unfoldable pub unlabelled_of : Opening → (List ℕ → Option ℕ) → List (List ℕ) → Option (Option (List ℕ) × LineEvent)

@@ -90,6 +90,10 @@ fn event_of(places: &PlaceMap, journal: &Journal, event: &LineEvent) -> Event
             lane: *lane,
             at: message_ref(places, at),
         },
+        LineEvent::Timeout { lane, op } => Event::Timeout {
+            lane: *lane,
+            op: *op,
+        },
         LineEvent::Serve { host, at } => Event::Serve {
             host: *host,
             at: message_ref(places, at),

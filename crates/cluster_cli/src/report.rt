@@ -120,7 +120,7 @@ fn add_entry(alloc: Global, entry: &Entry, lines: &mut LineList) -> Result<(), N
     ensures { OnOk result (lines.new ≡ lines.old ++ entry_lines entry.now) }
 {
     match &entry.event {
-        Event::Begin { lane, .. } | Event::Take { lane, .. } => {
+        Event::Begin { lane, .. } | Event::Take { lane, .. } | Event::Timeout { lane, .. } => {
             add_outputs(alloc, *lane, entry.outputs.as_slice(), lines)
         }
         Event::Serve { .. } => Ok(()),

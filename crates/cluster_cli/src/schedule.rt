@@ -1,5 +1,5 @@
 // A schedule as plain data: an opening, and the lines to play.
-use base_ids::{HostId, Items, LaneId, Version};
+use base_ids::{HostId, Items, LaneId, OpId, Version};
 use cluster_history::{Opening, Operation};
 
 /// What a schedule text says.
@@ -60,6 +60,13 @@ pub enum LineEvent {
         lane: LaneId,
         /// The message that it takes.
         at: LineRef,
+    },
+    /// A lane gives up a live request.
+    Timeout {
+        /// The lane.
+        lane: LaneId,
+        /// The number of the request in its lane.
+        op: OpId,
     },
     /// A host serves an ask.
     Serve {

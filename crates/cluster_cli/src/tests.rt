@@ -19,6 +19,14 @@ r: begin 2.0 read 1 5\nc: serve 1 r.1\nd: serve 2 r.2\ntake 2.0 c.0\ntake 2.0 d.
 const REPORT: &[u8] = b"reply 0.0 1 v1 write ok\nreply 2.0 1 v1 read ok live:10:61\n\
 end replies 2 log 0 version 1 fence 1\n";
 
+/// A write that one replica answers, whose answer is taken three times and counts once, and that is then given up.
+const GIVEN_UP: &[u8] = b"tablets 1\nhosts 3\nlanes 1\ntable 1 0 0:0 1:0 2:0\ngo\n\
+w: begin 0.0 write 1 5 live:10:61\na: serve 0 w.0\ntake 0.0 a.0\ntake 0.0 a.0\ntake 0.0 a.0\ntimeout 0.0 1\n";
+
+/// Its report.
+const GIVEN_UP_REPORT: &[u8] = b"reply 0.0 1 v1 write timeout 1 of 2\n\
+end replies 1 log 0 version 1 fence 1\n";
+
 /// After one reply a lane takes a message that is no answer, in line 8.
 const STOPPED: &[u8] = b"tablets 1\nhosts 3\nlanes 1\ntable 1 0 0:0 1:0 2:0\ngo\n\
 begin 0.0 read 2 5\nw: begin 0.0 write 1 5 dead:-10:7\ntake 0.0 w.0\nbegin 0.0 read 2 5\n";
@@ -56,6 +64,8 @@ fn each_status_comes_with_its_text(rt: HostRuntime) -> Result<(), Fail> {
     let alloc = rt.alloc();
     let good = &mut source(alloc, SCHEDULE, 0)?;
     check(&rt, alloc, b"play", good, 0, 0, REPORT)?;
+    let given_up = &mut source(alloc, GIVEN_UP, 0)?;
+    check(&rt, alloc, b"play", given_up, 0, 0, GIVEN_UP_REPORT)?;
     let usage = b"usage: play | run | trace | gen N\n";
     check(&rt, alloc, b"plays", good, 0, 2, usage)?;
     check(&rt, alloc, b"", good, 2, 6, b"usage")?;

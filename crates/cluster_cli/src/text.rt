@@ -87,8 +87,8 @@ fn read(alloc: Global, bytes: &[u8]) -> Result<Schedule, ParseError>
 ///
 /// Each line ends with LF, and words stand one space apart. The first five lines are `tablets 1`, `hosts N` with N from 1 to
 /// 64, `lanes K` with K from 1 to 4, `table T 0 R R R` with 1 to 8 replicas `H:0` on distinct hosts below N, and `go`. Each
-/// later line is `begin L write T TOKEN CELL`, `begin L read T TOKEN`, `serve H X.K` or `take L X.K`, with a label `LABEL:`
-/// before it or without. The form is this project's own.
+/// later line is `begin L write T TOKEN CELL`, `begin L read T TOKEN`, `serve H X.K`, `take L X.K` or `timeout L OP`, with a
+/// label `LABEL:` before it or without. The form is this project's own.
 ///
 /// `Refused` comes exactly where a line is of no such form, or the text ends before `go`; it names the first such line, or the
 /// count of lines plus 1. `NoMemory` comes where memory was refused.

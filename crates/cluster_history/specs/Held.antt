@@ -10,7 +10,7 @@ use Rattle.cluster_history.specs.Names.{same_host, same_key, written_key}
 use Rattle.cluster_history.specs.History.{message_at}
 use Rattle.cluster_history.specs.declared.data.Entry.{Entry}
 use Rattle.cluster_history.specs.declared.data.Event.{Event}
-use Rattle.cluster_history.specs.declared.data.Event.TheVariants.{Begin, Take, Serve}
+use Rattle.cluster_history.specs.declared.data.Event.TheVariants.{Begin, Take, Timeout, Serve}
 use Rattle.cluster_history.specs.declared.data.Message.{Message}
 use Rattle.cluster_history.specs.declared.data.Message.TheVariants.{Write as WriteSent, Read as ReadSent, Answer as AnswerSent}
 use Rattle.cluster_history.specs.declared.data.Output.{Output}
@@ -45,6 +45,7 @@ served_cell (Some (AnswerSent answer)) outputs key = None
 abbrev pub stored_by : List Entry → Event → List Output → HostId → Key → Option Cell
 stored_by past (Begin lane operation version) outputs host key = None
 stored_by past (Take lane at) outputs host key = None
+stored_by past (Timeout lane op) outputs host key = None
 stored_by past (Serve by at) outputs host key =
     if same_host by host then served_cell (message_at past at) outputs key else None
 

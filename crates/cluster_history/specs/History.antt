@@ -1,14 +1,15 @@
 -- A history is a list of entries with the newest first; entries are numbered from 1, the oldest first, so
 -- that a number keeps its meaning when more entries come.
-use Rattle.std.specs.Prelude.{ℕ, ◌+◌, ◌==◌, Bool, false, Option, Some, None, List, [], ◌∷◌, length, slice_get, if◌then◌else◌}
+use Rattle.std.specs.Prelude.{ℕ, ◌+◌, ◌==◌, Bool, false, Option, Some, None, List, [], ◌∷◌, ◌++◌, length, slice_get, if◌then◌else◌}
 use Rattle.base_ids.specs.declared.ids.HostId.{HostId}
 use Rattle.base_ids.specs.declared.ids.LaneId.{LaneId}
 use Rattle.base_ids.specs.declared.ids.MsgRef.{MsgRef}
+use Rattle.base_ids.specs.declared.ids.OpId.{OpId}
 use Rattle.base_ids.specs.declared.ids.Version.{Version}
 use Rattle.cluster_history.specs.Names.{same_lane}
 use Rattle.cluster_history.specs.declared.data.Entry.{Entry}
 use Rattle.cluster_history.specs.declared.data.Event.{Event}
-use Rattle.cluster_history.specs.declared.data.Event.TheVariants.{Begin, Take, Serve}
+use Rattle.cluster_history.specs.declared.data.Event.TheVariants.{Begin, Take, Timeout, Serve}
 use Rattle.cluster_history.specs.declared.data.Message.{Message}
 use Rattle.cluster_history.specs.declared.data.Opening.{Opening}
 use Rattle.cluster_history.specs.declared.data.Output.{Output}
@@ -58,15 +59,27 @@ floor_of opening past host = first_version
 abbrev pub is_begin_of : LaneId → Event → Bool
 is_begin_of lane (Begin by operation version) = same_lane by lane
 is_begin_of lane (Take by at) = false
+is_begin_of lane (Timeout by op) = false
 is_begin_of lane (Serve host at) = false
 
 -- the event is the lane's
 abbrev pub is_event_of : LaneId → Event → Bool
 is_event_of lane (Begin by operation version) = same_lane by lane
 is_event_of lane (Take by at) = same_lane by lane
+is_event_of lane (Timeout by op) = same_lane by lane
 is_event_of lane (Serve host at) = false
 
 -- how many requests the lane has begun
 abbrev pub begun : List Entry → LaneId → ℕ
 begun [] lane = 0
 begun (entry ∷ past) lane = if is_begin_of lane entry.event then begun past lane + 1 else begun past lane
+
+-- the number of the lane's next request
+abbrev pub next_op : List Entry → LaneId → OpId
+next_op past lane = record { 0 = begun past lane + 1 }
+
+-- the numbers of the requests that the lane has begun, in the order of their begin
+abbrev pub begun_ops : List Entry → LaneId → List OpId
+begun_ops [] lane = []
+begun_ops (entry ∷ past) lane =
+    if is_begin_of lane entry.event then begun_ops past lane ++ next_op past lane ∷ [] else begun_ops past lane

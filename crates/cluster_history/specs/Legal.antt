@@ -1,14 +1,14 @@
 -- Which rule an event breaks, which outputs it has, and which journals are legal runs.
-use Rattle.std.specs.Prelude.{◌≡◌, ◌+◌, Bool, Option, Some, None, List, [], ◌∷◌, ◌++◌, map, reverse, nat_lt, if◌then◌else◌, ◌⊎◌}
+use Rattle.std.specs.Prelude.{◌≡◌, ℕ, Bool, Option, Some, None, List, [], ◌∷◌, ◌++◌, map, reverse, nat_lt, nat_le, if◌then◌else◌, ◌⊎◌}
 use Rattle.base_ids.specs.declared.ids.LaneId.{LaneId}
 use Rattle.base_ids.specs.declared.ids.OpId.{OpId}
 use Rattle.base_ids.specs.declared.ids.Replica.{Replica}
 use Rattle.base_ids.specs.declared.ids.Version.{Version}
 use Rattle.base_ids.specs.declared.rules.EventRule.{EventRule}
-use Rattle.base_ids.specs.declared.rules.EventRule.TheVariants.{BelowFloor, AboveVersion, NoMessage, WrongMessage}
+use Rattle.base_ids.specs.declared.rules.EventRule.TheVariants.{BelowFloor, AboveVersion, LaneFull, NoMessage, WrongMessage, NoRequest}
 use Rattle.cell_merge.specs.declared.cell.Cell.{Cell}
 use Rattle.register_model.specs.declared.data.Key.{Key}
-use Rattle.quorum_ops.specs.Decision.{decision}
+use Rattle.quorum_ops.specs.Decision.{decision, timeout_reply}
 use Rattle.quorum_ops.specs.declared.data.Answer.{Answer}
 use Rattle.quorum_ops.specs.declared.data.Reply.{Reply}
 use Rattle.quorum_ops.specs.declared.data.Reply.TheVariants.{NoTable}
@@ -16,12 +16,12 @@ use Rattle.quorum_ops.specs.declared.data.Said.{Said}
 use Rattle.quorum_ops.specs.declared.data.Said.TheVariants.{Written, Found, Stale}
 use Rattle.cluster_history.specs.Names.{kind_of, read_key, is_ask_to, is_answer_to}
 use Rattle.cluster_history.specs.Openings.{HasHost, HasLane, IsValidOpening}
-use Rattle.cluster_history.specs.History.{begun, output_at, message_at, version_of, fence_of, floor_of}
+use Rattle.cluster_history.specs.History.{next_op, output_at, message_at, version_of, fence_of, floor_of}
 use Rattle.cluster_history.specs.Held.{held}
-use Rattle.cluster_history.specs.Requests.{Route, Request, route_of, request_at, is_live, answers_of}
+use Rattle.cluster_history.specs.Requests.{Route, Request, route_of, request_at, is_live, live_count, answers_of}
 use Rattle.cluster_history.specs.declared.data.Entry.{Entry}
 use Rattle.cluster_history.specs.declared.data.Event.{Event}
-use Rattle.cluster_history.specs.declared.data.Event.TheVariants.{Begin, Take, Serve}
+use Rattle.cluster_history.specs.declared.data.Event.TheVariants.{Begin, Take, Timeout, Serve}
 use Rattle.cluster_history.specs.declared.data.Journal.{Journal}
 use Rattle.cluster_history.specs.declared.data.Message.{Message}
 use Rattle.cluster_history.specs.declared.data.Message.TheVariants.{Write as WriteSent, Read as ReadSent, Answer as AnswerSent}
@@ -37,15 +37,21 @@ use Rattle.cluster_history.specs.declared.data.Output.TheVariants.{Sent, Reply a
 abbrev pub HasActor : Opening → Event → Type 0
 HasActor opening (Begin lane operation version) = HasLane opening lane
 HasActor opening (Take lane at) = HasLane opening lane
+HasActor opening (Timeout lane op) = HasLane opening lane
 HasActor opening (Serve host at) = HasHost opening host
 
 -- ---- the first broken rule
 
--- a request's version lies between the floor and the version of the lane's host
-abbrev pub begin_rule : Version → Version → Version → Option EventRule
-begin_rule version floor newest =
+-- so many live requests a lane has at most
+abbrev pub most_live : ℕ
+most_live = 8
+
+-- a request's version lies between the floor and the version of the lane's host, and the lane has room for it
+abbrev pub begin_rule : Version → Version → Version → ℕ → Option EventRule
+begin_rule version floor newest live =
     if nat_lt version.0 floor.0 then Some BelowFloor
     else if nat_lt newest.0 version.0 then Some AboveVersion
+    else if nat_le most_live live then Some LaneFull
     else None
 
 -- the reference names an output, and it is a message that the actor takes
@@ -54,11 +60,16 @@ message_rule fits None = Some NoMessage
 message_rule fits (Some (Sent message)) = if fits message then None else Some WrongMessage
 message_rule fits (Some (Replied op version kind reply)) = Some WrongMessage
 
+-- only a live request is given up
+abbrev pub timeout_rule : Bool → Option EventRule
+timeout_rule live = if live then None else Some NoRequest
+
 -- the first rule that the event breaks after this history, or none
 abbrev pub broken : Opening → List Entry → Event → Option EventRule
 broken opening past (Begin lane operation version) =
-    begin_rule version (floor_of opening past lane.host) (version_of opening past lane.host)
+    begin_rule version (floor_of opening past lane.host) (version_of opening past lane.host) (live_count past lane)
 broken opening past (Take lane at) = message_rule (is_answer_to lane) (output_at past at)
+broken opening past (Timeout lane op) = timeout_rule (is_live past lane op)
 broken opening past (Serve host at) = message_rule (is_ask_to host) (output_at past at)
 
 -- ---- the outputs of a begin
@@ -77,10 +88,6 @@ sent_ask lane op version operation to = Sent (ask_of lane op version operation t
 abbrev pub begin_outputs : LaneId → OpId → Version → Operation → Option Route → List Output
 begin_outputs lane op version operation None = Replied op version (kind_of operation) NoTable ∷ []
 begin_outputs lane op version operation (Some route) = map (sent_ask lane op version operation) route.targets
-
--- the number of the lane's next request
-abbrev pub next_op : List Entry → LaneId → OpId
-next_op past lane = record { 0 = begun past lane + 1 }
 
 -- ---- the outputs of a take
 
@@ -103,6 +110,14 @@ take_outputs opening past lane (Some (ReadSent ask)) = []
 take_outputs opening past lane (Some (AnswerSent answer)) =
     if is_live past lane answer.op then decided_by answer.op (answer ∷ answers_of past lane answer.op) (request_at opening past lane answer.op)
     else []
+
+-- ---- the outputs of a timeout
+
+-- the reply to a request that is given up, by the answers that it took, the newest first
+abbrev pub timeout_outputs : OpId → List Answer → Option Request → List Output
+timeout_outputs op answers None = []
+timeout_outputs op answers (Some request) =
+    reply_list op request (Some (timeout_reply request.targets request.need answers))
 
 -- ---- the outputs of a serve
 
@@ -129,6 +144,7 @@ abbrev pub outputs_of : Opening → List Entry → Event → List Output
 outputs_of opening past (Begin lane operation version) =
     begin_outputs lane (next_op past lane) version operation (route_of opening past version operation)
 outputs_of opening past (Take lane at) = take_outputs opening past lane (message_at past at)
+outputs_of opening past (Timeout lane op) = timeout_outputs op (answers_of past lane op) (request_at opening past lane op)
 outputs_of opening past (Serve host at) = serve_outputs (fence_of opening past host) (held past host) (message_at past at)
 
 -- the event with its outputs

@@ -1,6 +1,6 @@
 -- Requests: where they go, when they are live, and which answers they took. A request is named by its lane
 -- and its number, which counts the lane's begins from 1.
-use Rattle.std.specs.Prelude.{ℕ, ◌+◌, ◌/◌, ◌==◌, ◌&&◌, ◌||◌, Bool, false, not, Option, Some, None, List, [], ◌∷◌, length, if◌then◌else◌}
+use Rattle.std.specs.Prelude.{ℕ, ◌+◌, ◌/◌, ◌==◌, ◌&&◌, ◌||◌, Bool, false, not, Option, Some, None, List, [], ◌∷◌, length, filter, if◌then◌else◌}
 use Rattle.std.specs.List.{list_any}
 use Rattle.base_ids.specs.declared.ids.LaneId.{LaneId}
 use Rattle.base_ids.specs.declared.ids.OpId.{OpId}
@@ -8,10 +8,10 @@ use Rattle.base_ids.specs.declared.ids.Replica.{Replica}
 use Rattle.base_ids.specs.declared.ids.Version.{Version}
 use Rattle.quorum_ops.specs.declared.data.Answer.{Answer}
 use Rattle.cluster_history.specs.Names.{same_lane, same_op, key_of}
-use Rattle.cluster_history.specs.History.{begun, is_begin_of, is_event_of, message_at}
+use Rattle.cluster_history.specs.History.{begun, begun_ops, is_begin_of, is_event_of, message_at}
 use Rattle.cluster_history.specs.declared.data.Entry.{Entry}
 use Rattle.cluster_history.specs.declared.data.Event.{Event}
-use Rattle.cluster_history.specs.declared.data.Event.TheVariants.{Begin, Take, Serve}
+use Rattle.cluster_history.specs.declared.data.Event.TheVariants.{Begin, Take, Timeout, Serve}
 use Rattle.cluster_history.specs.declared.data.Message.{Message}
 use Rattle.cluster_history.specs.declared.data.Message.TheVariants.{Write as WriteSent, Read as ReadSent, Answer as AnswerSent}
 use Rattle.cluster_history.specs.declared.data.Opening.{Opening}
@@ -51,6 +51,7 @@ request_on operation version (Some route) =
 abbrev pub started : Opening → List Entry → Event → Option Request
 started opening past (Begin lane operation version) = request_on operation version (route_of opening past version operation)
 started opening past (Take lane at) = None
+started opening past (Timeout lane op) = None
 started opening past (Serve host at) = None
 
 -- the event begins the request
@@ -77,6 +78,14 @@ is_live [] lane op = false
 is_live (entry ∷ past) lane op =
     (begins past entry.event lane op || is_live past lane op) && not (replies_to entry lane op)
 
+-- the numbers of the lane's live requests, in the order of their begin
+abbrev pub live_ops : List Entry → LaneId → List OpId
+live_ops past lane = filter (is_live past lane) (begun_ops past lane)
+
+-- how many live requests the lane has
+abbrev pub live_count : List Entry → LaneId → ℕ
+live_count past lane = length (live_ops past lane)
+
 -- the message where it is an answer to the request
 abbrev pub answer_to : LaneId → OpId → Option Message → Option Answer
 answer_to lane op None = None
@@ -88,6 +97,7 @@ answer_to lane op (Some (AnswerSent answer)) =
 -- the answer to the request that an event of its lane takes
 abbrev pub taken : List Entry → Event → LaneId → OpId → Option Answer
 taken past (Begin by operation version) lane op = None
+taken past (Timeout by number) lane op = None
 taken past (Serve host at) lane op = None
 taken past (Take by at) lane op = if same_lane by lane then answer_to lane op (message_at past at) else None
 

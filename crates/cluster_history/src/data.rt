@@ -58,6 +58,13 @@ pub enum Event {
         /// The message that it takes.
         at: MsgRef,
     },
+    /// A lane gives up a live request.
+    Timeout {
+        /// The lane.
+        lane: LaneId,
+        /// The number of the request in its lane.
+        op: OpId,
+    },
     /// A host serves an ask.
     Serve {
         /// The host.

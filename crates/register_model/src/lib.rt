@@ -1,6 +1,7 @@
-// The register machine: what clients see of one key, apart from tablets and replicas.
+// The register machine: what clients see of each key, apart from tablets and replicas. Which lists of client
+// events are its runs stands in specs/.
 #![tactic(auto)]
 
 pub mod data;
 
-pub use data::Key;
+pub use data::{ClientEvent, ClientEventList, Key, Request};

@@ -3,14 +3,14 @@ ghost use Rattle.std.specs.Prelude.{◌≡◌, ◌≤◌, ◌<◌, IfSome};
 ghost use Rattle.std.specs.Option.{option_map, option_copied};
 ghost use Rattle.std.specs.List.{list_all};
 ghost use Rattle.cluster_cli.specs.TextCuts.{words_of, pieces_left};
-ghost use Rattle.cluster_cli.specs.TextEvents.{host_of, lane_of, is_letter, is_letter_or_digit, is_label, is_empty, label_of, reference_of, write_of, read_of, operation_of, begin_of, take_of, serve_of, event_of, unlabelled_of, labelled_of, line_of};
+ghost use Rattle.cluster_cli.specs.TextEvents.{host_of, lane_of, is_letter, is_letter_or_digit, is_label, is_empty, label_of, reference_of, write_of, read_of, operation_of, begin_of, take_of, timeout_of, serve_of, event_of, unlabelled_of, labelled_of, line_of};
 ghost use Rattle.cluster_cli.specs.TextLabels.{named_in};
 
 use crate::schedule::{LineEvent, LineRef};
 use crate::text::cells::{cell_of, token_of};
 use crate::text::cuts::{COLON, DOT, SPACE, first_piece, only_piece};
-use crate::text::numbers::number_below;
-use base_ids::{HostId, LaneId, TableId};
+use crate::text::numbers::{number_below, wide_number};
+use base_ids::{HostId, LaneId, OpId, TableId};
 use cluster_history::{Opening, Operation};
 use std::collections::BTreeMap;
 use token_ring::Token;
@@ -184,6 +184,18 @@ fn take_of<'a>(
     Some(LineEvent::Take { lane, at })
 }
 
+/// What a timeout says: `L OP`.
+#[tactic(auto, unfolding(crate::specs::TextEvents::timeout_of))]
+fn timeout_of(opening: &Opening, words: Option<&[u8]>) -> Option<LineEvent>
+    ensures { result ≡ timeout_of opening.now (pieces_left 32 (option_copied words.entry)) }
+{
+    let (word, words) = first_piece(SPACE, words)?;
+    let last = only_piece(SPACE, words)?;
+    let lane = lane_of(opening, word)?;
+    let op = wide_number(last)?;
+    Some(LineEvent::Timeout { lane, op: OpId(op) })
+}
+
 /// What a serve says: `H X.K`.
 #[tactic(auto, unfolding(crate::specs::TextEvents::serve_of))]
 fn serve_of<'a>(
@@ -214,6 +226,8 @@ fn event_of<'a>(
         begin_of(opening, words)
     } else if verb == b"take".as_slice() {
         take_of(opening, labels, words)
+    } else if verb == b"timeout".as_slice() {
+        timeout_of(opening, words)
     } else if verb == b"serve".as_slice() {
         serve_of(opening, labels, words)
     } else {

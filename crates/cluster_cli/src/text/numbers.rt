@@ -1,5 +1,5 @@
 // Numbers as a text spells them.
-ghost use Rattle.std.specs.Prelude.{◌≡◌, ◌<◌, IfSome, FitsSigned};
+ghost use Rattle.std.specs.Prelude.{◌≡◌, ◌<◌, ◌^◌, IfSome, FitsSigned};
 ghost use Rattle.std.specs.Int.{w64};
 ghost use Rattle.cluster_cli.specs.TextNumbers.{digit_of, unsigned_of, number_below, negative_of, positive_of, signed_of};
 
@@ -37,6 +37,19 @@ pub fn number_below(limit: u64, word: &[u8]) -> Option<u64>
 {
     let number = unsigned_of(word)?;
     if number < u128::from(limit) {
+        Some(number as u64)
+    } else {
+        None
+    }
+}
+
+/// A number of 1 to 20 digits that fits 64 bits.
+#[tactic(auto, unfolding(crate::specs::TextNumbers::number_below))]
+pub fn wide_number(word: &[u8]) -> Option<u64>
+    ensures { result ≡ number_below (2 ^ 64) word.now }
+{
+    let number = unsigned_of(word)?;
+    if number < 1 << 64 {
         Some(number as u64)
     } else {
         None

@@ -1,6 +1,6 @@
 use super::*;
 use crate::schedule::{LineAct, LineEvent, LineRef, SchedLine};
-use base_ids::{HostId, LaneId, Replica, ShardId, TableId};
+use base_ids::{HostId, LaneId, OpId, Replica, ShardId, TableId};
 use cell_merge::{Body, Bytes64, Cell};
 use cluster_history::Operation;
 use std::test::Fail;
@@ -24,7 +24,7 @@ fn event(line: u64, event: LineEvent) -> SchedLine {
 #[test]
 fn a_text_of_each_form_is_read(rt: HostRuntime) -> Result<(), Fail> {
     let events =
-        b"w2: begin 01.0 write 007 -5 live:-9:6aF0\nserve 0 w2.1\nbegin 0.0 write 7 5 dead:1:2\ntake 1.0 w2.00\nbegin 0.0 read 4294967295 0\n";
+        b"w2: begin 01.0 write 007 -5 live:-9:6aF0\nserve 0 w2.1\nbegin 0.0 write 7 5 dead:1:2\ntake 1.0 w2.00\nbegin 0.0 read 4294967295 0\ntimeout 1.0 18446744073709551615\n";
     let text = whole(rt.alloc(), HEADER, events.as_slice())?;
     let schedule = parse(rt.alloc(), text.as_slice())?;
     let lane = LaneId {
@@ -99,6 +99,13 @@ fn a_text_of_each_form_is_read(rt: HostRuntime) -> Result<(), Fail> {
                 version: None,
             },
         ),
+        event(
+            11,
+            LineEvent::Timeout {
+                lane: other,
+                op: OpId(u64::MAX),
+            },
+        ),
     ];
     assert_eq!(rt; schedule.lines.as_slice(), lines.as_slice());
     Ok(())
@@ -107,7 +114,7 @@ fn a_text_of_each_form_is_read(rt: HostRuntime) -> Result<(), Fail> {
 #[test]
 fn the_first_line_at_fault_is_named(rt: HostRuntime) -> Result<(), Fail> {
     let none: &[u8] = b"";
-    let texts: [(&[u8], &[u8], u64); 30] = [
+    let texts: [(&[u8], &[u8], u64); 32] = [
         (none, b"", 1),
         (none, b"tablets 1", 1),
         (none, b"tablets 01\n", 1),
@@ -137,7 +144,13 @@ fn the_first_line_at_fault_is_named(rt: HostRuntime) -> Result<(), Fail> {
         (HEADER, b"w: begin 0.0 read 7 5\nserve 0 v.0\n", 7),
         (HEADER, b"w: begin 0.0 read 7 5\nserve 0 6.0\n", 7),
         (HEADER, b"w: begin 0.0 read 7 5\nw: begin 0.0 read 7 5\n", 7),
-        (HEADER, b"w: begin 0.0 read 7 5\ntimeout 0.0 1\nx\n", 7),
+        (HEADER, b"timeout 0.0\n", 6),
+        (HEADER, b"timeout 0.0 18446744073709551616\n", 6),
+        (
+            HEADER,
+            b"w: begin 0.0 read 7 5\nt: timeout 0.0 1\ntimeout 0.1 1\n",
+            8,
+        ),
     ];
     for (front, behind, line) in texts {
         let text = whole(rt.alloc(), front, behind)?;

@@ -1,0 +1,17 @@
+pub mod SameLemmas
+pub mod CountLemmas
+pub mod BegunLemmas
+pub mod LegalLemmas
+pub mod SentLemmas
+pub mod SeenLemmas
+pub mod StoredLemmas
+pub mod SaidLemmas
+pub mod TakenLemmas
+pub mod DecisionLemmas
+pub mod SettledLemmas
+pub mod GoodLemmas
+pub mod RefineLemmas
+pub mod EntryLemmas
+pub mod UndecidedLemmas
+pub mod HeadlineLemmas
+pub mod CountsLemmas
