@@ -1,13 +1,10 @@
 -- Entries by their numbers: what came before them, and where clients saw them.
-use Rattle.std.proofs.Common.{◌≡◌, ℕ, zero, suc, ◌+◌, ◌==◌, ◌≤◌, ◌<◌, Bool, true, false, List, [], ◌∷◌, ◌++◌, length, Option, Some, None, if◌then◌else◌, ◌⊎◌, inl, inr, refl, sym, ◌∙◌, ap, subst, arith}
+use Rattle.std.proofs.Common.{◌≡◌, ℕ, zero, suc, ◌+◌, ◌==◌, ◌≤◌, ◌<◌, true, false, List, [], ◌∷◌, ◌++◌, length, Some, None, if◌then◌else◌, ◌⊎◌, inl, inr, refl, sym, ◌∙◌, ap, subst, arith}
 use Rattle.std.specs.List.{slice_get}
 use Rattle.std.specs.Cmp.{unsigned_Decides}
 use Rattle.std.proofs.lemmas.Bool.Decides.{nat_tests}
 use Rattle.std.proofs.lemmas.List.{length-append}
-use Rattle.std.proofs.lemmas.Option.{slice_get_within}
-use Rattle.base_ids.specs.declared.ids.HostId.{HostId}
 use Rattle.base_ids.specs.declared.ids.LaneId.{LaneId}
-use Rattle.base_ids.specs.declared.ids.MsgRef.{MsgRef}
 use Rattle.base_ids.specs.declared.ids.OpId.{OpId}
 use Rattle.base_ids.specs.declared.ids.TableId.{TableId}
 use Rattle.base_ids.specs.declared.ids.Version.{Version}
@@ -23,7 +20,7 @@ use Rattle.register_model.proofs.RunLemmas.{stands-more}
 use Rattle.stage_graph.specs.declared.kind.Kind.{Kind}
 use Rattle.cluster_history.specs.Names.{key_of}
 use Rattle.cluster_history.specs.History.{entry_at, next_op, is_event_of}
-use Rattle.cluster_history.specs.Legal.{outputs_of, entry_of, IsNext, IsLegalPast}
+use Rattle.cluster_history.specs.Legal.{IsNext, IsLegalPast}
 use Rattle.cluster_history.specs.declared.data.Entry.{Entry}
 use Rattle.cluster_history.specs.declared.data.Event.{Event}
 use Rattle.cluster_history.specs.declared.data.Event.TheVariants.{Begin, Take, Timeout, Serve}
@@ -35,7 +32,7 @@ use Rattle.cluster_history.specs.declared.data.Output.TheVariants.{Sent, Reply a
 use Rattle.overlap_law.specs.ClientEvents.{named, begin_event, reply_event, reply_events, seen_of, seen_in}
 use Rattle.overlap_law.specs.Headline.{before, IsBegunAt, IsToldAt}
 use Rattle.overlap_law.proofs.SameLemmas.{same_lane-same}
-use Rattle.overlap_law.proofs.SeenLemmas.{stands_split, IsBehind, stands_at, IsReply, reply_seen, reply_begins}
+use Rattle.overlap_law.proofs.SeenLemmas.{stands_split, IsReply, reply_seen, reply_begins}
 
 -- ---- numbers
 
@@ -261,9 +258,13 @@ write_first first past (Begin lane (WriteOf table token other) version) outputs 
     let newest : (length past + 1 == length past + 1) ≡ true = (unsigned_Decides (length past + 1) (length past + 1)).1 refl in
     let by : lane ≡ writer.lane = ap (λ (n : Named). n.lane) who in
     record {
-      number = length past + 1; table = table; token = token; key_is = cc;
+      number = length past + 1;
+      table = table;
+      token = token;
+      key_is = cc;
       begun = record {
-        entry = first; version = version;
+        entry = first;
+        version = version;
         stands = ap (λ b. if b then Some first else entry_at past (length past + 1)) newest;
         begins = ap (λ (x : Entry). x.event) is ∙ ap (λ l. Begin l (WriteOf table token other) version) by ∙ ap (λ c. Begin writer.lane (WriteOf table token c) version) what;
         next = ap (λ (n : Named). n.op) (sym who) ∙ ap (λ l. next_op past l) by ∙ ap (λ b. next_op b writer.lane) (sym (before_newest first past (length past + 1) newest));
@@ -278,7 +279,10 @@ write_entry (first ∷ past) place writer key cell e =
           let was : IsWriteEntry past writer key cell = write_entry past place writer key cell old in
           let more = inside_more first past was.number was.begun.entry was.begun.stands in
           record {
-            number = was.number; table = was.table; token = was.token; key_is = was.key_is;
+            number = was.number;
+            table = was.table;
+            token = was.token;
+            key_is = was.key_is;
             begun = record { entry = was.begun.entry; version = was.begun.version; stands = more.0; begins = was.begun.begins; next = was.begun.next ∙ ap (λ b. next_op b writer.lane) (sym more.1) };
           }
       | inr behind ↦ write_first first past first.event first.outputs behind.offset writer key cell refl behind.stands
