@@ -37,7 +37,7 @@ use Rattle.cluster_history.specs.declared.data.Operation.TheVariants.{Write as W
 use Rattle.cluster_history.specs.declared.data.Output.{Output}
 use Rattle.cluster_history.specs.declared.data.Output.TheVariants.{Reply as Replied}
 use Rattle.overlap_law.specs.ClientEvents.{named, begin_event, seen_of, seen_in}
-use Rattle.overlap_law.specs.Headline.{before, IsBegunAt, IsToldAt, IsWrittenEarlier, IsReadBound, IsBelowFences, IsShort, StaleBelowFences, TimeoutShort, IsHeadline}
+use Rattle.overlap_law.specs.Headline.{before, IsBegunAt, IsToldAt, IsWrittenEarlier, IsReadEarlier, IsReadBound, IsBelowFences, IsShort, StaleBelowFences, TimeoutShort, IsHeadline}
 use Rattle.overlap_law.proofs.SameLemmas.{and_true, same_lane-refl, same_lane-same, same_op-refl}
 use Rattle.overlap_law.proofs.BegunLemmas.{request_at-later}
 use Rattle.overlap_law.proofs.LegalLemmas.{timeout_live, Decides, answer_addressed}
@@ -47,7 +47,7 @@ use Rattle.overlap_law.proofs.SaidLemmas.{some_same}
 use Rattle.overlap_law.proofs.TakenLemmas.{IsSaidFirst, said_first, TellsFence, answer_fact, told_written}
 use Rattle.overlap_law.proofs.DecisionLemmas.{IsReadOf, decided, decides_taken}
 use Rattle.overlap_law.proofs.RefineLemmas.{run_of, begun_as, refine}
-use Rattle.overlap_law.proofs.EntryLemmas.{IsNextAt, next_at, number_within, before_length, IsInside, inside, seen_at, seen_before, seen_prefix, begun_seen, IsSeenTold, told_seen, IsWriteEntry, write_entry}
+use Rattle.overlap_law.proofs.EntryLemmas.{IsNextAt, next_at, number_within, before_length, IsInside, inside, seen_at, seen_before, seen_prefix, begun_seen, IsSeenTold, told_seen, IsWriteEntry, write_entry, IsBeginEntry, request_entry}
 use Rattle.overlap_law.proofs.UndecidedLemmas.{undecided}
 
 -- ---- replies
@@ -206,8 +206,41 @@ written_take opening past lane at decides cell legal fine reply =
     ]
 
 pub read_bound : (opening : Opening) (past : List Entry) → IsLegalPast opening past → IsReadBound past
-read_bound opening past legal = record { written = written; not_below = not_below }
+read_bound opening past legal = record { begun = began; written = written; not_below = not_below }
   where
+    began : (number : ℕ) (lane : LaneId) (op : OpId) (cell : Option Cell) → IsToldAt past number lane op (Read cell) → IsReadEarlier past number lane op
+    began number lane op cell told =
+        let at : IsNextAt opening past number told.entry = next_at opening past legal number told.entry told.stands in
+        by_event told.entry.event told.own (replied opening past legal number lane op (Read cell) told)
+      where
+        by_event : (event : Event) → is_event_of lane event ≡ true → Replies opening (before past number) event op told.version told.kind (Read cell) → IsReadEarlier past number lane op
+        by_event (Begin by operation version) own reply = let wrong : Read cell ≡ NoTable = reply.reply_is in cc
+        by_event (Timeout by given) own reply = let wrong = reply.reply_is in cc
+        by_event (Serve host from) own reply = absurd reply
+        by_event (Take by from) own reply =
+            elim (decided (kind_of reply.decides.request.operation) reply.decides.request.targets reply.decides.request.need reply.decides.answer (answers_of (before past number) by reply.decides.answer.op) reply.decides.reply reply.decides.decided) [
+              | inr refusal ↦ let wrong = reply.reply_is ∙ refusal.reply_is in cc
+              | inl counted ↦
+                  let what = read_reply (kind_of reply.decides.request.operation) cell (greatest_told (reply.decides.answer ∷ answers_of (before past number) by reply.decides.answer.op) reply.decides.request.targets) (reply.reply_is ∙ counted.reply_is) in
+                  let read : IsReadOf reply.decides.request.operation = is_read reply.decides.request.operation what.0 in
+                  let first : IsBeginEntry (before past number) by reply.decides.answer.op reply.decides.request.operation = request_entry opening (before past number) by reply.decides.answer.op reply.decides.request reply.decides.begun in
+                  let there : IsInside past number first.number first.begun.entry = inside past number first.number first.begun.entry first.begun.stands in
+                  let who : by ≡ lane = same_lane-same by lane own in
+                  record {
+                    at = first.number;
+                    table = read.table;
+                    token = read.token;
+                    earlier = omega (arith, number_within (before past number) first.number first.begun.entry first.begun.stands, before_length past number told.entry told.stands);
+                    begins = record {
+                      entry = first.begun.entry;
+                      version = first.begun.version;
+                      stands = there.stands;
+                      begins = first.begun.begins ∙ ap (λ l. Begin l reply.decides.request.operation first.begun.version) who ∙ ap (λ o. Begin lane o first.begun.version) read.is;
+                      next = reply.op_is ∙ first.begun.next ∙ ap (λ b. next_op b by) (sym there.same) ∙ ap (λ l. next_op (before past first.number) l) who;
+                    };
+                  }
+            ]
+
     written : (begin number : ℕ) (lane : LaneId) (op : OpId) (table : TableId) (token : Token) (cell : Cell) → IsBegunAt past begin lane op (ReadOf table token) → IsToldAt past number lane op (Read (Some cell)) → IsWrittenEarlier past number table token cell
     written begin number lane op table token cell begun told =
         let at : IsNextAt opening past number told.entry = next_at opening past legal number told.entry told.stands in
