@@ -47,9 +47,6 @@ pub record MayCome (events : List ClientEvent) (next : ClientEvent) : Type 0 whe
   pub not_below : (wrote acked begin : ℕ) (writer reader : Request) (key : Key) (written : Cell) (cell : Option Cell) → next ≡ ReadOk reader cell → Stands events wrote (WriteBegun writer key written) → Stands events acked (WriteAcked writer) → acked < begin → Stands events begin (ReadBegun reader key) → IsNotBelow cell (Some written)
 
 module _ (events : List ClientEvent) (next : ClientEvent) (run : IsRegisterRun events) (may : MayCome events next) where
-  longer : List ClientEvent
-  longer = events ++ next ∷ []
-
   write-more : (place : ℕ) (request : Request) → WriteBeganBefore events place request → WriteBeganBefore (events ++ next ∷ []) place request
   write-more place request before =
       record { at = before.at; key = before.key; cell = before.cell; earlier = before.earlier; stands = stands-more events (next ∷ []) before.at (WriteBegun request before.key before.cell) before.stands }
