@@ -42,4 +42,6 @@ fn main(rt: HostRuntime) -> ExitCode {
 }
 
 #[cfg(test)]
+mod error_texts;
+#[cfg(test)]
 mod tests;
