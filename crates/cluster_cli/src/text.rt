@@ -1,5 +1,6 @@
 // The reading of a schedule text.
-ghost use Rattle.std.specs.Prelude.{◌≡◌, codes, IfOk};
+ghost use Rattle.std.specs.Prelude.{◌≡◌, ℕ, List, Ok, codes, IfOk};
+ghost use Rattle.cluster_cli.specs.Grammar.{IsSchedule};
 ghost use Rattle.cluster_cli.specs.Schedule.{IsPlayable};
 ghost use Rattle.cluster_cli.specs.Text.{reading, Gives};
 
@@ -100,6 +101,14 @@ pub fn parse(alloc: Global, bytes: &[u8]) -> Result<Schedule, ParseError>
 {
     read(alloc, bytes)
 }
+
+/// What the reading gives is what the grammar tells. It does nothing: its clauses are what it is for.
+pub fn grammar_laws()
+    // What is read is in the grammar.
+    ensures found { (bytes : List ℕ) (schedule : Schedule) → reading bytes ≡ Ok schedule → IsSchedule bytes schedule }
+    // What is in the grammar is read.
+    ensures only { (bytes : List ℕ) (schedule : Schedule) → IsSchedule bytes schedule → reading bytes ≡ Ok schedule }
+{}
 
 #[cfg(test)]
 mod tests;
