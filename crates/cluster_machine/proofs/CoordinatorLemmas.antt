@@ -2,14 +2,15 @@
 use Rattle.std.proofs.Common.{◌≡◌, Bool, true, false, cond, Option, Some, None, List, [], ◌∷◌, ◌++◌, reverse, refl, sym, ◌∙◌, ap, subst}
 use Rattle.base_ids.specs.declared.ids.LaneId.{LaneId}
 use Rattle.base_ids.specs.declared.ids.MsgRef.{MsgRef}
-use Rattle.base_ids.specs.declared.rules.EventRule.TheVariants.{WrongMessage}
+use Rattle.base_ids.specs.declared.ids.OpId.{OpId}
+use Rattle.base_ids.specs.declared.rules.EventRule.TheVariants.{WrongMessage, NoRequest}
 use Rattle.quorum_ops.specs.declared.data.Answer.{Answer}
 use Rattle.cluster_history.specs.Names.{same_lane, is_answer_to}
 use Rattle.cluster_history.specs.History.{message_of, message_at, output_at}
 use Rattle.cluster_history.specs.Legal.{message_rule, broken, outputs_of, entry_of, with_event, take_outputs}
 use Rattle.cluster_history.specs.declared.data.Entry.{Entry}
 use Rattle.cluster_history.specs.declared.data.Event.{Event}
-use Rattle.cluster_history.specs.declared.data.Event.TheVariants.{Take}
+use Rattle.cluster_history.specs.declared.data.Event.TheVariants.{Take, Timeout}
 use Rattle.cluster_history.specs.declared.data.Journal.{Journal}
 use Rattle.cluster_history.specs.declared.data.Message.TheVariants.{Write as WriteSent, Read as ReadSent, Answer as AnswerSent}
 use Rattle.cluster_history.specs.declared.data.Opening.{Opening}
@@ -22,7 +23,7 @@ use Rattle.std.proofs.Common.{◌<◌, ◌+◌, ◌==◌, ◌^◌, length, arith
 use Rattle.std.proofs.lemmas.List.{length-reverse}
 use Rattle.base_ids.specs.declared.ids.Version.{Version}
 use Rattle.cluster_history.specs.Names.{key_of}
-use Rattle.cluster_history.specs.Requests.{Route, route_of, quorum}
+use Rattle.cluster_history.specs.Requests.{Route, route_of, quorum, is_live}
 use Rattle.cluster_history.specs.declared.data.Operation.{Operation}
 use Rattle.cluster_machine.proofs.LaneLemmas.{same_lane-same, begun-le_length}
 
@@ -82,6 +83,14 @@ pub lane-taken : (opening : Opening) (past : List Entry) (by : LaneId) (at : Msg
 lane-taken opening past by at answer lane same tied =
     let P : LaneId → Type 0 = λ l. IsLane opening (entry_of opening past (Take l at) ∷ past) l lane in
     subst P same tied
+
+-- only a live request may be given up
+pub live-to-end : (opening : Opening) (past : List Entry) (by : LaneId) (op : OpId) → broken opening past (Timeout by op) ≡ None → is_live past by op ≡ true
+live-to-end opening past by op enabled = live (is_live past by op) enabled
+  where
+    live : (b : Bool) → cond b None (Some NoRequest) ≡ None → b ≡ true
+    live true h = refl
+    live false h = cc
 
 -- a lane's count of begins is at most that of the journal's entries
 pub begun-fits : (opening : Opening) (entries : List Entry) (by : LaneId) (lane : Lane)

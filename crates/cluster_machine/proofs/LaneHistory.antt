@@ -14,7 +14,7 @@ use Rattle.cluster_history.specs.Requests.{Request, started, begins, request_at,
 use Rattle.cluster_history.specs.Legal.{sent_ask}
 use Rattle.cluster_history.specs.declared.data.Entry.{Entry}
 use Rattle.cluster_history.specs.declared.data.Event.{Event}
-use Rattle.cluster_history.specs.declared.data.Event.TheVariants.{Begin, Take, Serve}
+use Rattle.cluster_history.specs.declared.data.Event.TheVariants.{Begin, Take, Timeout, Serve}
 use Rattle.cluster_history.specs.declared.data.Opening.{Opening}
 use Rattle.cluster_history.specs.declared.data.Operation.{Operation}
 use Rattle.cluster_machine.specs.Lanes.{Kept, kept_by, live_of}
@@ -119,16 +119,22 @@ pub live_of-replied : (opening : Opening) (past : List Entry) (entry : Entry) (b
 live_of-replied opening past entry by op r =
     gone_next by op (begins past entry.event by op) (is_live past by op) (replies_to entry by op) (taken past entry.event by op) (answers_of past by op) (started opening past entry.event) (request_at opening past by op) r
 
+-- a request that is not live leaves nothing to keep
+pub live_of-dead : (opening : Opening) (past : List Entry) (by : LaneId) (op : OpId) → is_live past by op ≡ false → live_of opening past by op ≡ None
+live_of-dead opening past by op dead = rw dead refl
+
 -- ---- events of others
 
-begin_is_event : (by : LaneId) (event : Event) → is_event_of by event ≡ false → is_begin_of by event ≡ false
+pub begin_is_event : (by : LaneId) (event : Event) → is_event_of by event ≡ false → is_begin_of by event ≡ false
 begin_is_event by (Begin lane operation version) e = e
 begin_is_event by (Take lane at) e = refl
+begin_is_event by (Timeout lane op) e = refl
 begin_is_event by (Serve host at) e = refl
 
 take_is_event : (past : List Entry) (by : LaneId) (op : OpId) (event : Event) → is_event_of by event ≡ false → taken past event by op ≡ None
 take_is_event past by op (Begin lane operation version) e = refl
 take_is_event past by op (Take lane at) e = rw e refl
+take_is_event past by op (Timeout lane number) e = refl
 take_is_event past by op (Serve host at) e = refl
 
 -- an event that is not the lane's leaves its requests as they were

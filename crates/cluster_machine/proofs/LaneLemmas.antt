@@ -1,6 +1,9 @@
 -- A lane stays tied to the history at each event.
-use Rattle.std.proofs.Common.{◌≡◌, ℕ, ◌+◌, ◌≤◌, ◌<◌, ◌==◌, Bool, true, false, not, ◌&&◌, ◌||◌, List, [], ◌∷◌, length, map, Option, Some, None, IfSome, IsTrue, option_map, if◌then◌else◌, refl, sym, ◌∙◌, ap, subst, arith, inl, inr}
+use Rattle.std.proofs.Common.{◌≡◌, ℕ, ◌+◌, ◌≤◌, ◌<◌, ◌==◌, Bool, true, false, not, ◌&&◌, ◌||◌, List, [], ◌∷◌, ◌++◌, length, map, Option, Some, None, is_some, IfSome, IsTrue, option_map, if◌then◌else◌, refl, sym, ◌∙◌, ap, subst, arith, inl, inr}
 use Rattle.std.specs.List.{list_any}
+use Rattle.std.specs.Map.{keys_of}
+use Rattle.std.proofs.lemmas.Map.Entries.{length-keys_of}
+use Rattle.std.proofs.lemmas.List.{append-nil}
 use Rattle.std.proofs.lemmas.Bool.{eqb-true, eq-eqb, cases_lt}
 use Rattle.std.proofs.lemmas.Bool.Decides.{nat_tests}
 use Rattle.base_ids.specs.declared.ids.LaneId.{LaneId}
@@ -16,19 +19,19 @@ use Rattle.quorum_ops.specs.declared.data.Reply.{Reply}
 use Rattle.quorum_ops.specs.declared.data.Reply.TheVariants.{Ok as OkReply, Read as ReadReply, NoTable}
 use Rattle.quorum_ops.specs.declared.taking.Taking.{Taking}
 use Rattle.quorum_ops.specs.declared.taking.Taking.TheVariants.{Decided, Waiting}
-use Rattle.quorum_ops.specs.Decision.{decision}
-use Rattle.quorum_ops.specs.Pending.{IsUndecided, read_after_answer}
+use Rattle.quorum_ops.specs.Decision.{decision, timeout_reply}
+use Rattle.quorum_ops.specs.Pending.{IsUndecided, read_after_answer, timeout_of}
 use Rattle.quorum_ops.specs.Taken.{taking_by}
-use Rattle.quorum_ops.proofs.TakenLemmas.{after_answer-by, read_after_answer-by, write_taking-by, read_taking-by}
+use Rattle.quorum_ops.proofs.TakenLemmas.{after_answer-by, read_after_answer-by, write_taking-by, read_taking-by, timeout_of-by}
 use Rattle.quorum_ops.proofs.IdleAnswers.{undecided_begin, waits}
 use Rattle.request_table.specs.Requests.{is_same, request_of}
 use Rattle.cluster_history.specs.Names.{same_lane, same_op, kind_of}
 use Rattle.cluster_history.specs.Openings.{shares_host, has_distinct_hosts}
-use Rattle.cluster_history.specs.History.{begun, is_event_of, message_at}
-use Rattle.cluster_history.specs.Requests.{Route, Request, quorum, route_of, request_on, request_at, is_reply_to, is_live, answer_to, answers_of}
-use Rattle.cluster_history.specs.Legal.{sent_ask, begin_outputs, next_op, reply_list, decided_by, take_outputs, outputs_of, entry_of}
+use Rattle.cluster_history.specs.History.{begun, next_op, is_event_of, message_at}
+use Rattle.cluster_history.specs.Requests.{Route, Request, quorum, route_of, request_on, request_at, is_reply_to, replies_to, is_live, live_ops, live_count, answer_to, answers_of}
+use Rattle.cluster_history.specs.Legal.{sent_ask, begin_outputs, reply_list, decided_by, take_outputs, timeout_outputs, outputs_of, entry_of}
 use Rattle.cluster_history.specs.declared.data.Entry.{Entry}
-use Rattle.cluster_history.specs.declared.data.Event.TheVariants.{Begin, Take}
+use Rattle.cluster_history.specs.declared.data.Event.TheVariants.{Begin, Take, Timeout}
 use Rattle.cluster_history.specs.declared.data.Message.{Message}
 use Rattle.cluster_history.specs.declared.data.Message.TheVariants.{Answer as AnswerSent}
 use Rattle.cluster_history.specs.declared.data.Opening.{Opening}
@@ -39,10 +42,12 @@ use Rattle.cluster_history.specs.declared.data.Output.TheVariants.{Reply as Repl
 use Rattle.cluster_machine.specs.declared.lane.Work.{Work}
 use Rattle.cluster_machine.specs.declared.lane.Work.TheVariants.{Write as WriteWork, Read as ReadWork}
 use Rattle.cluster_machine.specs.declared.lane.Change.{Change}
+use Rattle.cluster_machine.specs.declared.lane.Change.TheVariants.{Ends}
 use Rattle.cluster_machine.specs.declared.lane.Lane.{Lane}
-use Rattle.cluster_machine.specs.Lanes.{work_on, kind_in, pending_in, work_after, taking_in, Kept, kept_by, live_of, upcoming, IsWaiting, IsReady, IsLane, kept_at_begin, change_by, change_of, reply_by, weighed_outputs, with_work, kept_after}
+use Rattle.cluster_machine.specs.Lanes.{work_on, kind_in, pending_in, work_after, taking_in, Kept, kept_by, live_of, upcoming, IsWaiting, IsReady, IsLane, kept_at_begin, change_by, change_of, reply_by, weighed_outputs, others_than, numbers_after, with_work, kept_after, given_up_outputs}
 pub use Rattle.cluster_machine.proofs.LaneHistory.{same_lane-refl, same_lane-same, begun-le_length}
-use Rattle.cluster_machine.proofs.LaneHistory.{same_op-same, same_op-refl, live_of-above, live_of-kept, live_of-begun, live_of-replied, live_of-others, begun-others, no_reply_in_asks, kept_next, kept_now}
+use Rattle.cluster_machine.proofs.LaneHistory.{same_op-same, same_op-refl, live_of-above, live_of-kept, live_of-begun, live_of-replied, live_of-dead, live_of-others, begin_is_event, begun-others, no_reply_in_asks, kept_next, kept_now}
+use Rattle.cluster_machine.proofs.LiveNumbers.{live_ops-any, is_live-later, live_ops-kept, live_ops-ended, live_ops-begin, found_by_number}
 
 -- ---- facts of what may be there
 
@@ -95,12 +100,24 @@ lane_fresh by lane ready = absent (request_of lane.requests.live (upcoming lane)
     absent None h = refl
     absent (Some kept) h = absurd (omega (arith, h))
 
+-- ---- what a lane knows of its live requests
+
+-- it keeps as many requests as are live
+pub lane_count : (opening : Opening) (past : List Entry) (by : LaneId) (lane : Lane) → IsLane opening past by lane → length lane.requests.live ≡ live_count past by
+lane_count opening past by lane tied = sym (length-keys_of lane.requests.live) ∙ ap length tied.live
+
+-- it finds exactly those that are live
+pub lane_knows : (opening : Opening) (past : List Entry) (by : LaneId) (lane : Lane) (op : OpId) → IsLane opening past by lane → is_some (request_of lane.requests.live op) ≡ is_live past by op
+lane_knows opening past by lane op tied =
+    found_by_number lane.requests.live op ∙ ap (list_any (is_same op)) tied.live ∙ live_ops-any past by op
+
 -- ---- what the lane keeps of other events
 
 pub lane_kept : (opening : Opening) (past : List Entry) (by : LaneId) (lane after : Lane) → after.begun ≡ lane.begun → after.requests.live ≡ lane.requests.live → IsLane opening past by lane → IsLane opening past by after
 lane_kept opening past by lane after count live tied =
     record {
       count = count ∙ tied.count;
+      live = ap (λ (all : List (OpId × Kept)). keys_of all) live ∙ tied.live;
       requests = λ op. ap (λ (all : List (OpId × Kept)). request_of all op) live ∙ tied.requests op;
       undecided = λ op. subst (λ (all : List (OpId × Kept)). AreUndecided (request_of all op)) (sym live) (tied.undecided op);
     }
@@ -110,6 +127,7 @@ pub lane_frame : (opening : Opening) (past : List Entry) (by : LaneId) (lane : L
 lane_frame opening past by lane entry other tied =
     record {
       count = tied.count ∙ sym (begun-others past entry by other);
+      live = tied.live ∙ sym (live_ops-kept past entry by (begin_is_event by entry.event other) (λ op. rw other refl));
       requests = λ op. tied.requests op ∙ sym (live_of-others opening past entry by op other);
       undecided = tied.undecided;
     }
@@ -119,6 +137,7 @@ pub lane_new : (opening : Opening) (by : LaneId) (lane : Lane) → lane.begun �
 lane_new opening by lane count live =
     record {
       count = count;
+      live = ap (λ (all : List (OpId × Kept)). keys_of all) live;
       requests = λ op. ap (λ (all : List (OpId × Kept)). request_of all op) live;
       undecided = λ op. subst (λ (all : List (OpId × Kept)). AreUndecided (request_of all op)) (sym live) tt;
     }
@@ -153,14 +172,22 @@ begin_itself opening past by operation version targets need outputs route silent
     (omega arith)
     ∙ ap (λ (to : Option Route). option_map (kept_by by (next_op past by) []) (request_on operation version to)) route
 
+or_false : (b : Bool) → (b || false) ≡ b
+or_false true = refl
+or_false false = refl
+
 flip_test : (a b : ℕ) → (a == b) ≡ false → (b == a) ≡ false
 flip_test a b e = grind (arith, nat_tests)
 
 -- a begin on a table that is there
-pub lane_begin : (opening : Opening) (past : List Entry) (by : LaneId) (operation : Operation) (version : Version) (targets : List Replica) (need : ℕ) (work : Work) (lane after : Lane) → after.begun ≡ lane.begun + 1 → ((op : OpId) → request_of after.requests.live op ≡ kept_at_begin (upcoming lane) version work op (request_of lane.requests.live op)) → IsLane opening past by lane → route_of opening past version operation ≡ Some (record { targets = targets; need = need }) → 1 ≤ need → need ≤ length targets → work ≡ work_on by (upcoming lane) operation targets need [] → IsLane opening (entry_of opening past (Begin by operation version) ∷ past) by after
-lane_begin opening past by operation version targets need work lane after count changed tied route some reachable same =
+pub lane_begin : (opening : Opening) (past : List Entry) (by : LaneId) (operation : Operation) (version : Version) (targets : List Replica) (need : ℕ) (work : Work) (lane after : Lane) → after.begun ≡ lane.begun + 1 → ((op : OpId) → request_of after.requests.live op ≡ kept_at_begin (upcoming lane) version work op (request_of lane.requests.live op)) → keys_of after.requests.live ≡ keys_of lane.requests.live ++ upcoming lane ∷ [] → IsLane opening past by lane → route_of opening past version operation ≡ Some (record { targets = targets; need = need }) → 1 ≤ need → need ≤ length targets → work ≡ work_on by (upcoming lane) operation targets need [] → IsLane opening (entry_of opening past (Begin by operation version) ∷ past) by after
+lane_begin opening past by operation version targets need work lane after count changed numbered tied route some reachable same =
     record {
       count = count ∙ ap (λ n. n + 1) tied.count ∙ sym (begin_count past by);
+      live =
+          numbered
+          ∙ (λ i. tied.live i ++ number_next past by lane tied.count i ∷ [])
+          ∙ sym (live_ops-begin past by operation version (begin_outputs by (next_op past by) version operation (route_of opening past version operation)) false (λ op below. silent op) (silent (next_op past by)));
       requests = λ op. changed op ∙ at_begin op (is_same (upcoming lane) op) refl;
       undecided = λ op. subst AreUndecided (sym (changed op)) (undecided op (is_same (upcoming lane) op));
     }
@@ -195,6 +222,11 @@ pub lane_counted : (opening : Opening) (past : List Entry) (by : LaneId) (operat
 lane_counted opening past by operation version lane after count live tied route =
     record {
       count = count ∙ ap (λ n. n + 1) tied.count ∙ sym (begin_count past by);
+      live =
+          ap (λ (all : List (OpId × Kept)). keys_of all) live
+          ∙ tied.live
+          ∙ sym (append-nil (live_ops past by))
+          ∙ sym (live_ops-begin past by operation version (begin_outputs by (next_op past by) version operation (route_of opening past version operation)) true (λ op below. replies op false (apart (begun past by) op.0 below)) (replies (next_op past by) true (same_op-refl (next_op past by))));
       requests = λ op. ap (λ (all : List (OpId × Kept)). request_of all op) live ∙ tied.requests op ∙ sym (after_reply op (next_op past by) (same_op (next_op past by) op) refl);
       undecided = λ op. subst (λ (all : List (OpId × Kept)). AreUndecided (request_of all op)) (sym live) (tied.undecided op);
     }
@@ -204,10 +236,9 @@ lane_counted opening past by operation version lane after count live tied route 
         ap (λ (to : Option Route). list_any (is_reply_to op) (begin_outputs by (next_op past by) version operation to)) route
         ∙ ap (λ (c : Bool). c || false) e
         ∙ or_false b
-      where
-        or_false : (b : Bool) → (b || false) ≡ b
-        or_false true = refl
-        or_false false = refl
+
+    apart : (n a : ℕ) → a ≤ n → (n + 1 == a) ≡ false
+    apart n a h = grind (arith, nat_tests)
 
     after_reply : (op number : OpId) (b : Bool) → same_op (next_op past by) op ≡ b → live_of opening (entry_of opening past (Begin by operation version) ∷ past) by op ≡ live_of opening past by op
     after_reply op number true e =
@@ -291,18 +322,34 @@ silent_elsewhere : (at : Option Kept) (answer : Answer) (op : OpId) → same_op 
 silent_elsewhere None answer op other = refl
 silent_elsewhere (Some one) answer op other = reply_elsewhere answer.op op one.version (kind_in one.work) (taking_in one.work answer) other
 
+-- which requests the entry that takes the answer replies to
+take_replies : (opening : Opening) (past : List Entry) (at : MsgRef) (answer : Answer) (op : OpId) → message_at past at ≡ Some (AnswerSent answer) → (same_lane answer.lane answer.lane && list_any (is_reply_to op) (take_outputs opening past answer.lane (message_at past at))) ≡ list_any (is_reply_to op) (weighed_outputs (live_of opening past answer.lane answer.op) answer)
+take_replies opening past at answer op message =
+    ap (λ (m : Option Message). same_lane answer.lane answer.lane && list_any (is_reply_to op) (take_outputs opening past answer.lane m)) message
+    ∙ ap (λ (b : Bool). b && list_any (is_reply_to op) (take_outputs opening past answer.lane (Some (AnswerSent answer)))) (same_lane-refl answer.lane)
+    ∙ ap (list_any (is_reply_to op)) (sym (weighed_at answer.lane answer (is_live past answer.lane answer.op) (answers_of past answer.lane answer.op) (request_at opening past answer.lane answer.op)))
+
+-- which requests are live once the answer is taken
+numbers_after-take : (opening : Opening) (past : List Entry) (at : MsgRef) (answer : Answer) → message_at past at ≡ Some (AnswerSent answer) → numbers_after (change_of (live_of opening past answer.lane answer.op) answer) (live_ops past answer.lane) ≡ live_ops (entry_of opening past (Take answer.lane at) ∷ past) answer.lane
+numbers_after-take opening past at answer message =
+    by_kept (live_of opening past answer.lane answer.op) (λ op. take_replies opening past at answer op message)
+  where
+    by_taking : (one : Kept) (taking : Taking) → ((op : OpId) → replies_to (entry_of opening past (Take answer.lane at)) answer.lane op ≡ list_any (is_reply_to op) (reply_by answer.op one.version (kind_in one.work) taking)) → numbers_after (change_by answer.op (work_after one.work answer) taking) (live_ops past answer.lane) ≡ live_ops (entry_of opening past (Take answer.lane at) ∷ past) answer.lane
+    by_taking one (Decided reply) replies =
+        sym (live_ops-ended past (entry_of opening past (Take answer.lane at)) answer.lane answer.op refl
+        (λ op. ap (λ b. is_live past answer.lane op && not b) (replies op ∙ or_false (same_op answer.op op))))
+    by_taking one Waiting replies = sym (live_ops-kept past (entry_of opening past (Take answer.lane at)) answer.lane refl replies)
+
+    by_kept : (kept : Option Kept) → ((op : OpId) → replies_to (entry_of opening past (Take answer.lane at)) answer.lane op ≡ list_any (is_reply_to op) (weighed_outputs kept answer)) → numbers_after (change_of kept answer) (live_ops past answer.lane) ≡ live_ops (entry_of opening past (Take answer.lane at) ∷ past) answer.lane
+    by_kept None replies = sym (live_ops-kept past (entry_of opening past (Take answer.lane at)) answer.lane refl replies)
+    by_kept (Some one) replies = by_taking one (taking_in one.work answer) replies
+
 -- what is kept of each request once the answer is taken
 kept_after-take : (opening : Opening) (past : List Entry) (at : MsgRef) (answer : Answer) (op : OpId) → message_at past at ≡ Some (AnswerSent answer) → kept_after (change_of (live_of opening past answer.lane answer.op) answer) op (live_of opening past answer.lane op) ≡ live_of opening (entry_of opening past (Take answer.lane at) ∷ past) answer.lane op
 kept_after-take opening past at answer op message = by_number (same_op answer.op op) refl
   where
-    by : LaneId
-    by = answer.lane
-
     replies : (op : OpId) → (same_lane answer.lane answer.lane && list_any (is_reply_to op) (take_outputs opening past answer.lane (message_at past at))) ≡ list_any (is_reply_to op) (weighed_outputs (live_of opening past answer.lane answer.op) answer)
-    replies op =
-        ap (λ (m : Option Message). same_lane answer.lane answer.lane && list_any (is_reply_to op) (take_outputs opening past answer.lane m)) message
-        ∙ ap (λ (b : Bool). b && list_any (is_reply_to op) (take_outputs opening past answer.lane (Some (AnswerSent answer)))) (same_lane-refl answer.lane)
-        ∙ ap (list_any (is_reply_to op)) (sym (weighed_at answer.lane answer (is_live past answer.lane answer.op) (answers_of past answer.lane answer.op) (request_at opening past answer.lane answer.op)))
+    replies op = take_replies opening past at answer op message
 
     taken_is : (op : OpId) (same : Bool) → same_op answer.op op ≡ same → (if same_lane answer.lane answer.lane then answer_to answer.lane op (message_at past at) else None) ≡ (if same then Some answer else None)
     taken_is op same e =
@@ -344,10 +391,15 @@ undecided_kept (Some one) answer op kept here there = by_taking (taking_in one.w
         waited false kept there = there
 
 -- an answer of the lane is taken
-pub lane_settle : (opening : Opening) (past : List Entry) (at : MsgRef) (answer : Answer) (change : Change) (lane after : Lane) → after.begun ≡ lane.begun → ((op : OpId) → request_of after.requests.live op ≡ kept_after change op (request_of lane.requests.live op)) → IsLane opening past answer.lane lane → message_at past at ≡ Some (AnswerSent answer) → change ≡ change_of (request_of lane.requests.live answer.op) answer → IsLane opening (entry_of opening past (Take answer.lane at) ∷ past) answer.lane after
-lane_settle opening past at answer change lane after count changed tied message same =
+pub lane_settle : (opening : Opening) (past : List Entry) (at : MsgRef) (answer : Answer) (change : Change) (lane after : Lane) → after.begun ≡ lane.begun → ((op : OpId) → request_of after.requests.live op ≡ kept_after change op (request_of lane.requests.live op)) → keys_of after.requests.live ≡ numbers_after change (keys_of lane.requests.live) → IsLane opening past answer.lane lane → message_at past at ≡ Some (AnswerSent answer) → change ≡ change_of (request_of lane.requests.live answer.op) answer → IsLane opening (entry_of opening past (Take answer.lane at) ∷ past) answer.lane after
+lane_settle opening past at answer change lane after count changed numbered tied message same =
     record {
       count = count ∙ tied.count;
+      live =
+          numbered
+          ∙ ap (λ (c : Change). numbers_after c (keys_of lane.requests.live)) same
+          ∙ (λ i. numbers_after (change_of (tied.requests answer.op i) answer) (tied.live i))
+          ∙ numbers_after-take opening past at answer message;
       requests = λ op. changed op ∙ now_is op ∙ kept_after-take opening past at answer op message;
       undecided = λ op. subst AreUndecided (sym (changed op ∙ by_change op)) (undecided_kept (request_of lane.requests.live answer.op) answer op (request_of lane.requests.live op) (tied.undecided answer.op) (tied.undecided op));
     }
@@ -359,6 +411,96 @@ lane_settle opening past at answer change lane after count changed tied message 
     now_is op =
         by_change op
         ∙ (λ i. kept_after (change_of (tied.requests answer.op i) answer) op (tied.requests op i))
+
+-- ---- a request that is given up
+
+timeout_on : (by : LaneId) (op : OpId) (targets : List Replica) (need : ℕ) (answers : List Answer) (operation : Operation) → timeout_of (pending_in (work_on by op operation targets need answers)) ≡ timeout_reply targets need answers
+timeout_on by op targets need answers (WriteOf table token cell) = timeout_of-by by op targets need answers
+timeout_on by op targets need answers (ReadOf table token) = timeout_of-by by op targets need answers
+
+kind_on : (by : LaneId) (op : OpId) (targets : List Replica) (need : ℕ) (answers : List Answer) (operation : Operation) → kind_in (work_on by op operation targets need answers) ≡ kind_of operation
+kind_on by op targets need answers (WriteOf table token cell) = refl
+kind_on by op targets need answers (ReadOf table token) = refl
+
+-- what is put out for a live request that is given up is what the definitions say
+pub given_up_are_outputs : (opening : Opening) (past : List Entry) (by : LaneId) (lane : Lane) (op : OpId) → IsLane opening past by lane → is_live past by op ≡ true → given_up_outputs op (request_of lane.requests.live op) ≡ outputs_of opening past (Timeout by op)
+given_up_are_outputs opening past by lane op tied live =
+    ap (given_up_outputs op) (tied.requests op)
+    ∙ ap (λ (b : Bool). given_up_outputs op (if b then option_map (kept_by by op (answers_of past by op)) (request_at opening past by op) else None)) live
+    ∙ by_request (request_at opening past by op)
+  where
+    by_request : (request : Option Request) → given_up_outputs op (option_map (kept_by by op (answers_of past by op)) request) ≡ timeout_outputs op (answers_of past by op) request
+    by_request None = refl
+    by_request (Some request) =
+        λ i. Replied op request.version (kind_on by op request.targets request.need (answers_of past by op) request.operation i) (timeout_on by op request.targets request.need (answers_of past by op) request.operation i) ∷ []
+
+-- a live request of the lane is given up
+pub lane_end : (opening : Opening) (past : List Entry) (by : LaneId) (number : OpId) (lane after : Lane) → after.begun ≡ lane.begun → ((op : OpId) → request_of after.requests.live op ≡ kept_after (Ends number) op (request_of lane.requests.live op)) → keys_of after.requests.live ≡ others_than number (keys_of lane.requests.live) → IsLane opening past by lane → IsLane opening (entry_of opening past (Timeout by number) ∷ past) by after
+lane_end opening past by number lane after count changed numbered tied =
+    record {
+      count = count ∙ tied.count;
+      live = numbered ∙ ap (others_than number) tied.live ∙ sym (live_ops-ended past (entry_of opening past (Timeout by number)) by number refl ends);
+      requests = λ op. changed op ∙ by_number op (same_op number op) refl;
+      undecided = λ op. subst AreUndecided (sym (changed op)) (undecided op (is_same number op));
+    }
+  where
+    replies : (op : OpId) → replies_to (entry_of opening past (Timeout by number)) by op ≡ (is_some (request_at opening past by number) && same_op number op)
+    replies op =
+        ap (λ (b : Bool). b && list_any (is_reply_to op) (timeout_outputs number (answers_of past by number) (request_at opening past by number))) (same_lane-refl by)
+        ∙ by_request (request_at opening past by number)
+      where
+        by_request : (request : Option Request) → list_any (is_reply_to op) (timeout_outputs number (answers_of past by number) request) ≡ (is_some request && same_op number op)
+        by_request None = refl
+        by_request (Some request) = or_false (same_op number op)
+
+    -- a live request was begun on a table that is there
+    there : is_live past by number ≡ true → is_some (request_at opening past by number) ≡ true
+    there live = by_request (is_live past by number) (request_at opening past by number) (sym (ap (λ (kept : Option Kept). is_some kept) (tied.requests number)) ∙ lane_knows opening past by lane number tied) live
+      where
+        by_request : (live : Bool) (request : Option Request) → is_some (if live then option_map (kept_by by number (answers_of past by number)) request else None) ≡ live → live ≡ true → is_some request ≡ true
+        by_request true None known h = known
+        by_request true (Some request) known h = refl
+        by_request false request known h = cc
+
+    ends : (op : OpId) → (is_live past by op && not (replies_to (entry_of opening past (Timeout by number)) by op)) ≡ (is_live past by op && not (same_op number op))
+    ends op =
+        ap (λ b. is_live past by op && not b) (replies op)
+        ∙ by_number (same_op number op) refl
+      where
+        told : (live known : Bool) → (live ≡ true → known ≡ true) → (live && not (known && true)) ≡ (live && false)
+        told true known h = rw (h refl) refl
+        told false known h = refl
+
+        silent : (live known : Bool) → (live && not (known && false)) ≡ (live && true)
+        silent live true = refl
+        silent live false = refl
+
+        by_number : (same : Bool) → same_op number op ≡ same → (is_live past by op && not (is_some (request_at opening past by number) && same)) ≡ (is_live past by op && not same)
+        by_number true e =
+            let name = same_op-same number op e in
+            told (is_live past by op) (is_some (request_at opening past by number)) (λ live. there (ap (is_live past by) name ∙ live))
+        by_number false e = silent (is_live past by op) (is_some (request_at opening past by number))
+
+    never : (b : Bool) → (b && false) ≡ false
+    never true = refl
+    never false = refl
+
+    by_number : (op : OpId) (same : Bool) → same_op number op ≡ same → (if same then None else request_of lane.requests.live op) ≡ live_of opening (entry_of opening past (Timeout by number) ∷ past) by op
+    by_number op true e =
+        sym (live_of-dead opening (entry_of opening past (Timeout by number) ∷ past) by op
+        (is_live-later past (entry_of opening past (Timeout by number)) by op refl
+        ∙ ends op
+        ∙ ap (λ b. is_live past by op && not b) e
+        ∙ never (is_live past by op)))
+    by_number op false e =
+        tied.requests op
+        ∙ sym (live_of-kept opening past (entry_of opening past (Timeout by number)) by op refl
+        (replies op ∙ ap (λ b. is_some (request_at opening past by number) && b) e ∙ never (is_some (request_at opening past by number)))
+        refl)
+
+    undecided : (op : OpId) (b : Bool) → AreUndecided (if b then None else request_of lane.requests.live op)
+    undecided op true = tt
+    undecided op false = tied.undecided op
 
 -- ---- what the machine shows of a begin
 

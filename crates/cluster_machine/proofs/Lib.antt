@@ -4,6 +4,7 @@ pub mod HoldingLemmas
 pub mod LaneHistory
 pub mod LaneLemmas
 pub mod LaneTables
+pub mod LiveNumbers
 pub mod LookupLemmas
 pub mod PushLemmas
 pub mod TiedLemmas

@@ -10,6 +10,7 @@ use Rattle.cluster_machine.specs.Cells.{cell_at}
 use Rattle.base_ids.specs.declared.ids.HostId.{HostId}
 use Rattle.base_ids.specs.declared.ids.LaneId.{LaneId}
 use Rattle.base_ids.specs.declared.ids.MsgRef.{MsgRef}
+use Rattle.base_ids.specs.declared.ids.OpId.{OpId}
 use Rattle.base_ids.specs.declared.ids.Version.{Version}
 use Rattle.cell_merge.specs.declared.cell.Cell.{Cell}
 use Rattle.cell_merge.specs.Cell.{greater_cell}
@@ -21,7 +22,7 @@ use Rattle.cluster_history.specs.Openings.{HasHost, HasLane, IsValidOpening}
 use Rattle.cluster_history.specs.Legal.{IsNext, HasActor, broken, broken_after, outputs_of, entry_of, with_event}
 use Rattle.cluster_history.specs.declared.data.Entry.{Entry}
 use Rattle.cluster_history.specs.declared.data.Event.{Event}
-use Rattle.cluster_history.specs.declared.data.Event.TheVariants.{Begin, Take, Serve}
+use Rattle.cluster_history.specs.declared.data.Event.TheVariants.{Begin, Take, Timeout, Serve}
 use Rattle.cluster_history.specs.declared.data.Journal.{Journal}
 use Rattle.cluster_history.specs.declared.data.Opening.{Opening}
 use Rattle.cluster_history.specs.declared.data.Output.{Output}
@@ -230,6 +231,19 @@ pub machine-take : (journal new : Journal) (all_cells : List (List (Key × Cell)
     → IsTied new.opening (reverse new.entries) all_cells (slice_set all_lanes (lane_place journal.opening.lanes by) lane)
 machine-take journal new all_cells all_lanes by at lane result tied there enabled ok err is_lane =
     machine-lane journal new all_cells all_lanes by (Take by at) lane result tied there there enabled
+    (λ past outputs host key. refl) (λ other apart. apart) ok err is_lane
+
+pub machine-timeout : (journal new : Journal) (all_cells : List (List (Key × Cell))) (all_lanes : List Lane)
+    (by : LaneId) (op : OpId) (lane : Lane) (result : Result (Unit {0}) NoMemory)
+    → IsTied journal.opening (reverse journal.entries) all_cells all_lanes
+    → HasLane journal.opening by
+    → broken_after journal (Timeout by op) ≡ None
+    → OnOk result (new ≡ with_event journal (Timeout by op))
+    → OnErr result (new ≡ journal)
+    → IsLane new.opening (reverse new.entries) by lane
+    → IsTied new.opening (reverse new.entries) all_cells (slice_set all_lanes (lane_place journal.opening.lanes by) lane)
+machine-timeout journal new all_cells all_lanes by op lane result tied there enabled ok err is_lane =
+    machine-lane journal new all_cells all_lanes by (Timeout by op) lane result tied there there enabled
     (λ past outputs host key. refl) (λ other apart. apart) ok err is_lane
 
 -- a host's serving happened, or memory was refused

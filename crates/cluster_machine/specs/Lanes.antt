@@ -1,5 +1,6 @@
 -- A lane's part of the machine, and how it is tied to the history.
-use Rattle.std.specs.Prelude.{◌≡◌, ℕ, ◌+◌, ◌≤◌, Option, Some, None, IfSome, option_map, List, [], ◌∷◌, if◌then◌else◌}
+use Rattle.std.specs.Prelude.{◌≡◌, ℕ, ◌+◌, ◌≤◌, not, Option, Some, None, IfSome, option_map, List, [], ◌∷◌, filter, if◌then◌else◌}
+use Rattle.std.specs.Map.{keys_of}
 use Rattle.base_ids.specs.declared.ids.LaneId.{LaneId}
 use Rattle.base_ids.specs.declared.ids.OpId.{OpId}
 use Rattle.base_ids.specs.declared.ids.Replica.{Replica}
@@ -9,12 +10,12 @@ use Rattle.stage_graph.specs.declared.kind.Kind.TheVariants.{Read as ReadKind, W
 use Rattle.quorum_ops.specs.declared.data.Answer.{Answer}
 use Rattle.quorum_ops.specs.declared.taking.Taking.{Taking}
 use Rattle.quorum_ops.specs.declared.taking.Taking.TheVariants.{Decided, Waiting}
-use Rattle.quorum_ops.specs.Pending.{Pending, IsUndecided, after_answer, read_after_answer, write_taking, read_taking}
+use Rattle.quorum_ops.specs.Pending.{Pending, IsUndecided, after_answer, read_after_answer, write_taking, read_taking, timeout_of}
 use Rattle.quorum_ops.specs.Taken.{pending_by, pending_read_by}
 use Rattle.request_table.specs.declared.Live.{Live}
 use Rattle.request_table.specs.Requests.{is_same, request_of}
 use Rattle.cluster_history.specs.History.{begun}
-use Rattle.cluster_history.specs.Requests.{Request, request_at, is_live, answers_of}
+use Rattle.cluster_history.specs.Requests.{Request, request_at, is_live, live_ops, answers_of}
 use Rattle.cluster_history.specs.declared.data.Entry.{Entry}
 use Rattle.cluster_history.specs.declared.data.Opening.{Opening}
 use Rattle.cluster_history.specs.declared.data.Operation.{Operation}
@@ -81,9 +82,11 @@ pub record IsReady (by : LaneId) (lane : Lane) : Type 0 where
   pub numbers : (op : OpId) → IfSome (request_of lane.requests.live op) (λ kept. op.0 ≤ lane.begun)
   pub waiting : (op : OpId) → IfSome (request_of lane.requests.live op) (λ kept. IsWaiting by op (pending_in kept.work))
 
--- what the lane keeps is what the history says of its requests, and none that it keeps is decided
+-- What the lane keeps is what the history says of its requests, in the order of their begin, and none that it keeps is
+-- decided.
 pub record IsLane (opening : Opening) (past : List Entry) (by : LaneId) (lane : Lane) : Type 0 where
   pub count : lane.begun ≡ begun past by
+  pub live : keys_of lane.requests.live ≡ live_ops past by
   pub requests : (op : OpId) → request_of lane.requests.live op ≡ live_of opening past by op
   pub undecided : (op : OpId) → IfSome (request_of lane.requests.live op) (λ kept. IsUndecided (pending_in kept.work))
 
@@ -114,6 +117,16 @@ abbrev pub weighed_outputs : Option Kept → Answer → List Output
 weighed_outputs None answer = []
 weighed_outputs (Some kept) answer = reply_by answer.op kept.version (kind_in kept.work) (taking_in kept.work answer)
 
+-- all numbers but this one
+abbrev pub others_than : OpId → List OpId → List OpId
+others_than number numbers = filter (λ op. not (is_same number op)) numbers
+
+-- the numbers of the live requests once the lane has changed so
+abbrev pub numbers_after : Change → List OpId → List OpId
+numbers_after Nothing numbers = numbers
+numbers_after (Waits number work) numbers = numbers
+numbers_after (Ends number) numbers = others_than number numbers
+
 abbrev pub with_work : Work → Kept → Kept
 with_work work kept = record kept { work = work }
 
@@ -123,3 +136,10 @@ kept_after Nothing op kept = kept
 kept_after (Waits number work) op kept =
     if is_same number op then option_map (with_work work) kept else kept
 kept_after (Ends number) op kept = if is_same number op then None else kept
+
+-- ---- a request that is given up
+
+-- what the client is told, by the answers that its request took; nothing where it is not live
+abbrev pub given_up_outputs : OpId → Option Kept → List Output
+given_up_outputs op None = []
+given_up_outputs op (Some kept) = Replied op kept.version (kind_in kept.work) (timeout_of (pending_in kept.work)) ∷ []

@@ -1,4 +1,4 @@
-// A lane's part of the machine: it begins requests and takes answers.
+// A lane's part of the machine: it begins requests, takes answers, and gives requests up.
 ghost use Rattle.std.specs.Prelude.{◌≡◌, ◌≤◌, ◌==◌, true, false, OnOk, OnErr, reverse, length, Option, Some, None};
 ghost use Rattle.cluster_history.specs.Names.{kind_of, key_of};
 ghost use Rattle.cluster_history.specs.Openings.{IsValidOpening};
@@ -10,7 +10,7 @@ use crate::host::add;
 use crate::lane::Lane;
 use crate::lookup::{message_of, output_at};
 use crate::serving::one_output;
-use base_ids::{LaneId, MsgRef, NoMemory, TableId, Version};
+use base_ids::{LaneId, MsgRef, NoMemory, OpId, TableId, Version};
 use cluster_history::{Event, Journal, Message, Operation, Output};
 use quorum_ops::Reply;
 use stage_graph::Kind;
@@ -149,5 +149,26 @@ pub fn take(
     };
     add(journal, Event::Take { lane: by, at }, outputs)?;
     lane.settle(change);
+    Ok(())
+}
+
+/// Gives up a live request: its client is told of how many replicas the lane took an answer. `NoMemory` leaves the journal as
+/// it was.
+pub fn timeout(
+    alloc: Global,
+    journal: &mut Journal,
+    lane: &mut Lane,
+    by: LaneId,
+    op: OpId,
+) -> Result<(), NoMemory>
+    requires enabled { broken_after journal.old (Event.Timeout by op) ≡ None }
+    requires tied { IsLane journal.old.opening (reverse journal.old.entries) by lane.old }
+    ensures ok { OnOk result (journal.new ≡ with_event journal.old (Event.Timeout by op)) }
+    ensures err { OnErr result (journal.new ≡ journal.old) }
+    ensures tied { IsLane journal.new.opening (reverse journal.new.entries) by lane.new }
+{
+    let outputs = lane.given_up(alloc, op)?;
+    add(journal, Event::Timeout { lane: by, op }, outputs)?;
+    lane.end(op);
     Ok(())
 }

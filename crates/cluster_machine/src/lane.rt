@@ -1,5 +1,6 @@
 // A lane's part of the machine: how many requests it began, and those that are live.
-ghost use Rattle.std.specs.Prelude.{◌≡◌, ℕ, ◌+◌, ◌<◌, ◌≤◌, ◌^◌, List, [], ◌∷◌, Option, Some, None, length, map, IfOk, OnOk};
+ghost use Rattle.std.specs.Prelude.{◌≡◌, ℕ, ◌+◌, ◌<◌, ◌≤◌, ◌^◌, List, [], ◌∷◌, ◌++◌, Option, Some, None, is_some, true, length, map, IfOk, IfSome, OnOk};
+ghost use Rattle.std.specs.Map.{keys_of};
 ghost use Rattle.base_ids.specs.declared.ids.LaneId.{LaneId};
 ghost use Rattle.base_ids.specs.declared.ids.MsgRef.{MsgRef};
 ghost use Rattle.base_ids.specs.declared.ids.OpId.{OpId};
@@ -7,7 +8,7 @@ ghost use Rattle.base_ids.specs.declared.ids.Replica.{Replica};
 ghost use Rattle.base_ids.specs.declared.ids.Version.{Version};
 ghost use Rattle.quorum_tally.specs.Replicas.{AreDistinct};
 ghost use Rattle.quorum_ops.specs.declared.data.Answer.{Answer};
-ghost use Rattle.quorum_ops.specs.Pending.{Names, IsUndecided};
+ghost use Rattle.quorum_ops.specs.Pending.{Names, IsUndecided, timeout_of};
 ghost use Rattle.request_table.specs.Requests.{request_of};
 ghost use Rattle.cluster_history.specs.declared.data.Entry.{Entry};
 ghost use Rattle.cluster_history.specs.declared.data.Event.{Event};
@@ -15,10 +16,11 @@ ghost use Rattle.cluster_history.specs.declared.data.Message.{Message};
 ghost use Rattle.cluster_history.specs.declared.data.Opening.{Opening};
 ghost use Rattle.cluster_history.specs.declared.data.Operation.{Operation};
 ghost use Rattle.cluster_history.specs.History.{message_at};
-ghost use Rattle.cluster_history.specs.Requests.{route_of};
-ghost use Rattle.cluster_history.specs.Legal.{sent_ask, take_outputs, entry_of};
-ghost use Rattle.cluster_machine.specs.Lanes.{work_on, kind_in, pending_in, work_after, taking_in, upcoming, IsReady, IsLane, kept_at_begin, change_by, change_of, reply_by, weighed_outputs, kept_after};
+ghost use Rattle.cluster_history.specs.Requests.{route_of, is_live, live_count};
+ghost use Rattle.cluster_history.specs.Legal.{sent_ask, take_outputs, outputs_of, entry_of};
+ghost use Rattle.cluster_machine.specs.Lanes.{work_on, kind_in, pending_in, work_after, taking_in, upcoming, IsReady, IsLane, kept_at_begin, change_by, change_of, reply_by, weighed_outputs, others_than, numbers_after, kept_after, given_up_outputs};
 
+use crate::serving::one_output;
 use base_ids::{Items, LaneId, NoMemory, OpId, Replica, Version};
 use cell_merge::{Body, Cell};
 use cluster_history::{Message, Operation, Output, OutputList};
@@ -81,6 +83,22 @@ impl Lane {
         OpId(self.begun + 1)
     }
 
+    /// How many requests are live.
+    pub fn live_count(&self) -> usize
+        ensures count { result ≡ length self.now.requests.live }
+        ensures tied { (opening : Opening) (past : List Entry) (by : LaneId) → IsLane opening past by self.now → result ≡ live_count past by }
+    {
+        self.requests.len()
+    }
+
+    /// Whether the request is live.
+    pub fn is_live(&self, op: OpId) -> bool
+        ensures found { result ≡ is_some (request_of self.now.requests.live op) }
+        ensures tied { (opening : Opening) (past : List Entry) (by : LaneId) → IsLane opening past by self.now → result ≡ is_live past by op }
+    {
+        self.requests.get(op).is_some()
+    }
+
     /// Has all memory that the begin of the lane's next request takes: room for it, its work, and one ask for each target.
     /// What the lane keeps stays.
     pub fn prepare(
@@ -118,6 +136,7 @@ impl Lane {
         requires has_room { self.old.requests.room ≡ Some (upcoming self.old) }
         ensures count { self.new.begun ≡ self.old.begun + 1 }
         ensures requests { (op : OpId) → request_of self.new.requests.live op ≡ kept_at_begin (upcoming self.old) version work op (request_of self.old.requests.live op) }
+        ensures numbers { keys_of self.new.requests.live ≡ keys_of self.old.requests.live ++ upcoming self.old ∷ [] }
         ensures tied { (opening : Opening) (past : List Entry) (by : LaneId) (operation : Operation) (targets : List Replica) (need : ℕ) → IsLane opening past by self.old → route_of opening past version operation ≡ Some (record { targets = targets; need = need }) → 1 ≤ need → need ≤ length targets → work ≡ work_on by (upcoming self.old) operation targets need [] → IsLane opening (entry_of opening past (Event.Begin by operation version) ∷ past) by self.new }
     {
         let op = self.next_op();
@@ -156,6 +175,7 @@ impl Lane {
     pub fn settle(&mut self, change: Change)
         ensures count { self.new.begun ≡ self.old.begun }
         ensures requests { (op : OpId) → request_of self.new.requests.live op ≡ kept_after change op (request_of self.old.requests.live op) }
+        ensures numbers { keys_of self.new.requests.live ≡ numbers_after change (keys_of self.old.requests.live) }
         ensures tied { (opening : Opening) (past : List Entry) (at : MsgRef) (answer : Answer) → IsLane opening past answer.lane self.old → message_at past at ≡ Some (Message.Answer answer) → change ≡ change_of (request_of self.old.requests.live answer.op) answer → IsLane opening (entry_of opening past (Event.Take answer.lane at) ∷ past) answer.lane self.new }
     {
         match change {
@@ -165,6 +185,37 @@ impl Lane {
                 self.requests.remove(op);
             }
         }
+    }
+
+    /// What the client is told of a live request that is given up: of how many replicas its answers are. Where it is not
+    /// live, nothing. What the lane keeps stays.
+    pub fn given_up(&self, alloc: Global, op: OpId) -> Result<OutputList, NoMemory>
+        requires { IfSome (request_of self.now.requests.live op) (λ kept. IsUndecided (pending_in kept.work)) }
+        ensures outputs { IfOk result (λ outputs. outputs ≡ given_up_outputs op (request_of self.now.requests.live op)) }
+        ensures tied { (opening : Opening) (past : List Entry) (by : LaneId) → IsLane opening past by self.now → is_live past by op ≡ true → IfOk result (λ outputs. outputs ≡ outputs_of opening past (Event.Timeout by op)) }
+    {
+        match self.requests.get(op) {
+            None => Ok(Items::new(alloc)),
+            Some(kept) => one_output(
+                alloc,
+                Output::Reply {
+                    op,
+                    version: kept.version,
+                    kind: kept.work.kind(),
+                    reply: kept.work.timeout(),
+                },
+            ),
+        }
+    }
+
+    /// Ends a request, if it is live. Takes no memory.
+    pub fn end(&mut self, op: OpId)
+        ensures count { self.new.begun ≡ self.old.begun }
+        ensures requests { (other : OpId) → request_of self.new.requests.live other ≡ kept_after (Change.Ends op) other (request_of self.old.requests.live other) }
+        ensures numbers { keys_of self.new.requests.live ≡ others_than op (keys_of self.old.requests.live) }
+        ensures tied { (opening : Opening) (past : List Entry) (by : LaneId) → IsLane opening past by self.old → IsLane opening (entry_of opening past (Event.Timeout by op) ∷ past) by self.new }
+    {
+        self.requests.remove(op);
     }
 }
 
@@ -187,6 +238,17 @@ impl Work {
                 let taking = read.take(answer);
                 (Work::Read(read), taking)
             }
+        }
+    }
+
+    /// The reply where the lane waits no longer. Nothing has decided it.
+    fn timeout(&self) -> Reply
+        requires { IsUndecided (pending_in self.now) }
+        ensures { result ≡ timeout_of (pending_in self.now) }
+    {
+        match self {
+            Work::Write(write) => write.timeout(),
+            Work::Read(read) => read.timeout(),
         }
     }
 

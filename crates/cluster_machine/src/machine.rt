@@ -10,10 +10,10 @@ ghost use Rattle.cluster_machine.specs.Tied.{lane_place};
 
 use crate::cells::Cells;
 use crate::lane::Lane;
-use crate::rules::broken;
+use crate::rules::{begin_breaks, serve_breaks, take_breaks, timeout_breaks};
 use crate::step::StepError;
 use crate::{coordinator, host};
-use base_ids::{EventRule, HostId, LaneId, MsgRef, NoMemory, Version};
+use base_ids::{EventRule, HostId, LaneId, MsgRef, NoMemory, OpId, Version};
 use cluster_history::{EntryList, Event, Journal, Opening, Operation};
 use std::alloc::Global;
 use std::marker::Model;
@@ -103,10 +103,32 @@ impl Machine {
         requires { HasActor self.now.opening event.now }
         ensures { IsRuling (broken_after self.now event.now) result }
     {
-        match broken(self.journal.entries.as_slice(), event) {
+        match self.broken(event) {
             None => Ok(()),
             Some(rule) => Err(rule),
         }
+    }
+
+    /// The first rule that the event breaks after the journal so far, or none.
+    fn broken(&self, event: &Event) -> Option<EventRule>
+        requires { HasActor self.now.opening event.now }
+        ensures { result ≡ broken_after self.now event.now }
+    {
+        let entries = self.journal.entries.as_slice();
+        match event {
+            Event::Begin { lane, version, .. } => begin_breaks(self.lane(*lane), *version),
+            Event::Take { lane, at } => take_breaks(entries, *lane, *at),
+            Event::Timeout { lane, op } => timeout_breaks(self.lane(*lane), *op),
+            Event::Serve { host, at } => serve_breaks(entries, *host, *at),
+        }
+    }
+
+    /// What is kept of a lane.
+    fn lane(&self, lane: LaneId) -> &Lane
+        requires { HasLane self.now.opening lane }
+        ensures { IsLane self.now.opening (reverse self.now.entries) lane result.now }
+    {
+        &self.lanes[lane_place(self.journal.opening.lanes, lane)]
     }
 
     /// Plays the event and gives the number of its entry, from 1. `NotEnabled` comes exactly where the event
@@ -138,6 +160,7 @@ impl Machine {
                 version,
             } => self.begin(lane, operation, version),
             Event::Take { lane, at } => self.take(lane, at),
+            Event::Timeout { lane, op } => self.timeout(lane, op),
             Event::Serve { host, at } => self.serve(host, at),
         }
     }
@@ -179,6 +202,23 @@ impl Machine {
             &mut self.lanes[place],
             lane,
             at,
+        )
+    }
+
+    /// A lane gives up a request.
+    fn timeout(&mut self, lane: LaneId, op: OpId) -> Result<(), NoMemory>
+        requires there { HasLane self.old.opening lane }
+        requires enabled { broken_after self.old (Event.Timeout lane op) ≡ None }
+        ensures ok { OnOk result (self.new ≡ with_event self.old (Event.Timeout lane op)) }
+        ensures err { OnErr result (self.new ≡ self.old) }
+    {
+        let place = lane_place(self.journal.opening.lanes, lane);
+        coordinator::timeout(
+            self.alloc,
+            &mut self.journal,
+            &mut self.lanes[place],
+            lane,
+            op,
         )
     }
 

@@ -14,3 +14,4 @@ pub mod RefineLemmas
 pub mod EntryLemmas
 pub mod UndecidedLemmas
 pub mod HeadlineLemmas
+pub mod CountsLemmas

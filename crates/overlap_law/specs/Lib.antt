@@ -1,2 +1,3 @@
 pub mod ClientEvents
 pub mod Headline
+pub mod Counts

@@ -21,11 +21,11 @@ use Rattle.quorum_ops.specs.declared.data.Answer.{Answer}
 use Rattle.quorum_ops.specs.declared.data.Said.{Said}
 use Rattle.quorum_ops.specs.declared.data.Said.TheVariants.{Written, Found, Stale}
 use Rattle.quorum_ops.specs.declared.data.Reply.{Reply}
-use Rattle.quorum_ops.specs.declared.data.Reply.TheVariants.{Ok as OkReply, Read as ReadReply, Stale as StaleReply}
+use Rattle.quorum_ops.specs.declared.data.Reply.TheVariants.{Ok as OkReply, Read as ReadReply, Stale as StaleReply, Timeout}
 use Rattle.quorum_ops.specs.declared.taking.Taking.{Taking}
 use Rattle.quorum_ops.specs.declared.taking.Taking.TheVariants.{Decided, Waiting}
-use Rattle.quorum_ops.specs.Decision.{first_said, says_data, says_stale, said_cell, has_answered, has_refused, answered_count, refused_count, greatest_told, good_reply, decision_by, decision}
-use Rattle.quorum_ops.specs.Pending.{Pending, PendingRead, pending_of, pending_read_of, marked_by, after_answer, found_cell, greatest_after, read_after_answer, data_taking, refusal_taking, taking_after, write_taking, read_taking}
+use Rattle.quorum_ops.specs.Decision.{first_said, says_data, says_stale, said_cell, has_answered, has_refused, answered_count, refused_count, greatest_told, good_reply, decision_by, decision, timeout_reply}
+use Rattle.quorum_ops.specs.Pending.{Pending, PendingRead, pending_of, pending_read_of, marked_by, after_answer, found_cell, greatest_after, read_after_answer, data_taking, refusal_taking, taking_after, write_taking, read_taking, timeout_of}
 use Rattle.quorum_ops.specs.Taken.{standing_of, place_by, standings_by, pending_by, pending_read_by, taking_by, reply_or, write_outcome, read_outcome, first_decision}
 
 -- ---- one target
@@ -212,6 +212,12 @@ pub read_taking-by : (lane : LaneId) (op : OpId) (targets : List Replica) (need 
 read_taking-by lane op targets need earlier answer =
     ap (λ (read : PendingRead). taking_after read.request.tally answer.said (ReadReply read.greatest)) (read_after_answer-by lane op targets need earlier answer)
     ∙ taking_after-by ReadKind (answer ∷ earlier) targets need answer.said
+
+-- ---- a request that is given up
+
+-- what a client is told of it, by the definition
+pub timeout_of-by : (lane : LaneId) (op : OpId) (targets : List Replica) (need : ℕ) (answers : List Answer) → timeout_of (pending_by lane op targets need answers) ≡ timeout_reply targets need answers
+timeout_of-by lane op targets need answers = ap (λ n. Timeout n need) (answered_in-by answers targets need)
 
 -- ---- whole lists
 

@@ -8,14 +8,14 @@ ghost use Rattle.quorum_tally.specs.declared.tally.Mark.{Mark};
 ghost use Rattle.quorum_tally.specs.Standings.{mark_of};
 ghost use Rattle.quorum_ops.specs.declared.data.Answer.{Answer};
 ghost use Rattle.quorum_ops.specs.declared.taking.Taking.{Taking};
-ghost use Rattle.quorum_ops.specs.Decision.{decision};
-ghost use Rattle.quorum_ops.specs.Pending.{Pending, PendingRead, IsUndecided, pending_of, pending_read_of, after_answer, read_after_answer, write_taking, read_taking};
+ghost use Rattle.quorum_ops.specs.Decision.{decision, timeout_reply};
+ghost use Rattle.quorum_ops.specs.Pending.{Pending, PendingRead, IsUndecided, pending_of, pending_read_of, after_answer, read_after_answer, write_taking, read_taking, timeout_of};
 ghost use Rattle.quorum_ops.specs.Taken.{pending_by, pending_read_by, taking_by, write_outcome, read_outcome, first_decision, is_stranger, is_repeat};
 
 /// The laws of a write and a read that take answers: what is seen of an operation is what the definitions
 /// say of the answers that it took, and taking a whole list one by one, up to the first answer that
-/// decides, gives the first decision that the definition finds in that list. It does nothing: its clauses
-/// are what it is for.
+/// decides, gives the first decision that the definition finds in that list. An operation that is given up
+/// replies by the answers that it took. It does nothing: its clauses are what it is for.
 pub fn decision_laws()
     ensures write_stands { (lane : LaneId) (op : OpId) (targets : List Replica) (need : ℕ) (earlier : List Answer) (answer : Answer) → after_answer (pending_by lane op targets need earlier) answer ≡ pending_by lane op targets need (answer ∷ earlier) }
     ensures write_decides { (lane : LaneId) (op : OpId) (targets : List Replica) (need : ℕ) (earlier : List Answer) (answer : Answer) → write_taking (pending_by lane op targets need earlier) answer ≡ taking_by (decision Kind.Write targets need (answer ∷ earlier)) }
@@ -24,6 +24,9 @@ pub fn decision_laws()
     ensures read_stands { (lane : LaneId) (op : OpId) (targets : List Replica) (need : ℕ) (earlier : List Answer) (answer : Answer) → read_after_answer (pending_read_by lane op targets need earlier) answer ≡ pending_read_by lane op targets need (answer ∷ earlier) }
     ensures read_decides { (lane : LaneId) (op : OpId) (targets : List Replica) (need : ℕ) (earlier : List Answer) (answer : Answer) → read_taking (pending_read_by lane op targets need earlier) answer ≡ taking_by (decision Kind.Read targets need (answer ∷ earlier)) }
     ensures read_list { (lane : LaneId) (op : OpId) (targets : List Replica) (need : ℕ) (answers : List Answer) → read_outcome (pending_read_of lane op targets need) answers ≡ first_decision Kind.Read targets need [] answers }
+
+    ensures write_timeout { (lane : LaneId) (op : OpId) (targets : List Replica) (need : ℕ) (answers : List Answer) → timeout_of (pending_by lane op targets need answers) ≡ timeout_reply targets need answers }
+    ensures read_timeout { (lane : LaneId) (op : OpId) (targets : List Replica) (need : ℕ) (answers : List Answer) → timeout_of (pending_read_by lane op targets need answers).request ≡ timeout_reply targets need answers }
 {}
 
 /// The laws of answers that do not count: one of a replica that was not asked, and one of a replica that
