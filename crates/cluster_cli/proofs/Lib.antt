@@ -1,4 +1,7 @@
 pub mod EndingLemmas
+pub mod GrammarLines
+pub mod GrammarNumbers
+pub mod GrammarPieces
 pub mod PlayLemmas
 pub mod TextCutLemmas
 pub mod TextCellLemmas

@@ -174,7 +174,7 @@ AreEventLines opening labels number (line ∷ lines) (x ∷ xs) = (label : Optio
 -- lines, each of which LF, byte 10, ends
 abbrev pub ended : List (List ℕ) → List ℕ
 ended [] = []
-ended (line ∷ lines) = line ++ codes "\n" ++ ended lines
+ended (line ∷ lines) = line ++ (codes "\n" ++ ended lines)
 
 -- ---- the text
 
@@ -205,5 +205,5 @@ pub record IsFaultAt (bytes : List ℕ) (number : ℕ) : Type 0 where
   pub spelt : bytes ≡ ended lines ++ rest
   pub count : number ≡ length lines + 1
   pub begins : IsBeginning lines
-  pub fault : (line behind : List ℕ) → IsFree 10 line → rest ≡ line ++ codes "\n" ++ behind → IsBeginning (lines ++ line ∷ []) → ⊥
+  pub fault : (line behind : List ℕ) → IsFree 10 line → rest ≡ line ++ (codes "\n" ++ behind) → IsBeginning (lines ++ line ∷ []) → ⊥
   pub not_whole : (schedule : Schedule) → IsSchedule bytes schedule → ⊥
