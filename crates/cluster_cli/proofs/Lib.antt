@@ -2,6 +2,7 @@ pub mod EndingLemmas
 pub mod GrammarLines
 pub mod GrammarNumbers
 pub mod GrammarPieces
+pub mod GrammarText
 pub mod PlayLemmas
 pub mod TextCutLemmas
 pub mod TextCellLemmas

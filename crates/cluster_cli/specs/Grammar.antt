@@ -203,6 +203,7 @@ pub record IsFaultAt (bytes : List ℕ) (number : ℕ) : Type 0 where
   pub lines : List (List ℕ)
   pub rest : List ℕ
   pub spelt : bytes ≡ ended lines ++ rest
+  pub free : AllByRecursion (IsFree 10) lines
   pub count : number ≡ length lines + 1
   pub begins : IsBeginning lines
   pub fault : (line behind : List ℕ) → IsFree 10 line → rest ≡ line ++ (codes "\n" ++ behind) → IsBeginning (lines ++ line ∷ []) → ⊥
