@@ -1,4 +1,5 @@
 pub mod EndingLemmas
+pub mod GrammarFaults
 pub mod GrammarLines
 pub mod GrammarNumbers
 pub mod GrammarPieces

@@ -1,5 +1,6 @@
 use Rattle.token_ring.proofs.Tokens.{same_token}
 use Rattle.cluster_cli.proofs.GrammarText.{reading_there, reading_back}
+use Rattle.cluster_cli.proofs.GrammarFaults.{whole_then}
 use Rattle.cluster_cli.proofs.text.grammar_laws.Goals as goal
 
 pub returns-clause-found : goal.returns-clause-found
