@@ -1,6 +1,6 @@
 // The reading of a schedule text.
-ghost use Rattle.std.specs.Prelude.{◌≡◌, ℕ, List, Ok, codes, IfOk};
-ghost use Rattle.cluster_cli.specs.Grammar.{IsSchedule};
+ghost use Rattle.std.specs.Prelude.{◌≡◌, ℕ, List, Ok, Err, codes, IfOk};
+ghost use Rattle.cluster_cli.specs.Grammar.{IsSchedule, IsFaultAt};
 ghost use Rattle.cluster_cli.specs.Schedule.{IsPlayable};
 ghost use Rattle.cluster_cli.specs.Text.{reading, Gives};
 
@@ -108,6 +108,10 @@ pub fn grammar_laws()
     ensures found { (bytes : List ℕ) (schedule : Schedule) → reading bytes ≡ Ok schedule → IsSchedule bytes schedule }
     // What is in the grammar is read.
     ensures only { (bytes : List ℕ) (schedule : Schedule) → IsSchedule bytes schedule → reading bytes ≡ Ok schedule }
+    // The line that is named is the first one at fault.
+    ensures named { (bytes : List ℕ) (line : ℕ) → reading bytes ≡ Err line → IsFaultAt bytes line }
+    // The first line at fault is named.
+    ensures fault { (bytes : List ℕ) (line : ℕ) → IsFaultAt bytes line → reading bytes ≡ Err line }
 {}
 
 #[cfg(test)]

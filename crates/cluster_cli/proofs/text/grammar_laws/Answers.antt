@@ -1,6 +1,6 @@
 use Rattle.token_ring.proofs.Tokens.{same_token}
 use Rattle.cluster_cli.proofs.GrammarText.{reading_there, reading_back}
-use Rattle.cluster_cli.proofs.GrammarFaults.{whole_then}
+use Rattle.cluster_cli.proofs.GrammarFaults.{fault_there, fault_back}
 use Rattle.cluster_cli.proofs.text.grammar_laws.Goals as goal
 
 pub returns-clause-found : goal.returns-clause-found
@@ -8,3 +8,9 @@ returns-clause-found c = reading_there
 
 pub returns-clause-only : goal.returns-clause-only
 returns-clause-only c = reading_back same_token
+
+pub returns-clause-named : goal.returns-clause-named
+returns-clause-named c = fault_there same_token
+
+pub returns-clause-fault : goal.returns-clause-fault
+returns-clause-fault c = fault_back same_token
