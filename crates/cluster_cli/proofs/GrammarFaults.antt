@@ -14,9 +14,12 @@ use Rattle.cluster_cli.specs.TextCuts.{lines_of, first_line}
 use Rattle.cluster_cli.specs.TextHeader.{hosts_of, lanes_of, table_of, after_line, first_as}
 use Rattle.cluster_cli.specs.TextEvents.{line_of, with_label}
 use Rattle.cluster_cli.specs.Text as text
-use Rattle.cluster_cli.specs.Text.{at_line, header_of, events_of, reading}
+use Rattle.cluster_cli.specs.Text.{Gives, at_line, header_of, events_of, reading}
+use Rattle.cluster_cli.specs.declared.text.ParseError.{ParseError}
+use Rattle.cluster_cli.specs.declared.text.ParseError.TheVariants.{Refused, NoMemory}
+use Rattle.cluster_cli.specs.declared.text.TextRule.TheVariants.{NotBuilt}
 use Rattle.cluster_cli.specs.GrammarWords.{IsFree, IsNumberBelow, ArePieces}
-use Rattle.cluster_cli.specs.Grammar.{IsCountLine, IsReplica, IsTableLine, AreEventLines, Labels, IsEventLine, with_name, ended, IsSchedule, IsBeginning, IsFaultAt}
+use Rattle.cluster_cli.specs.Grammar.{IsCountLine, IsReplica, IsTableLine, AreEventLines, Labels, IsEventLine, with_name, ended, IsSchedule, IsBeginning, IsFaultAt, IsTold}
 use Rattle.cluster_cli.proofs.TextPlayable.{ok_step, at_step, same_Ok}
 use Rattle.cluster_cli.proofs.GrammarPieces.{AreLines, are_lines, lines_again, whole_lines, are_pieces, pieces_are}
 use Rattle.cluster_cli.proofs.GrammarNumbers.{OneToken}
@@ -551,3 +554,17 @@ fault_found one bytes number f (Err at) e = e ∙ ap Err (one_of at number (too_
 -- a line that is at fault is named by the reading
 pub fault_back : OneToken → (bytes : List ℕ) (number : ℕ) → IsFaultAt bytes number → reading bytes ≡ Err number
 fault_back one bytes number f = fault_found one bytes number f (reading bytes) refl
+
+-- ---- each text is one of the two
+
+pub told : OneToken → (bytes : List ℕ) → (found : Result Schedule ℕ) → reading bytes ≡ found → ((schedule : Schedule) × IsSchedule bytes schedule) ⊎ ((line : ℕ) × IsFaultAt bytes line)
+told one bytes (Ok schedule) e = inl (schedule, reading_there bytes schedule e)
+told one bytes (Err line) e = inr (line, fault_there one bytes line e)
+
+pub one_schedule : OneToken → (bytes : List ℕ) (a b : Schedule) → IsSchedule bytes a → IsSchedule bytes b → a ≡ b
+one_schedule one bytes a b is also = same_Ok a b (sym (reading_back one bytes a is) ∙ reading_back one bytes b also)
+
+pub given_told : OneToken → (result : Result Schedule ParseError) (bytes : List ℕ) → Gives (λ (schedule : Schedule). schedule) result (reading bytes) → IsTold bytes result
+given_told one (Ok schedule) bytes e = reading_there bytes schedule e
+given_told one (Err (Refused line NotBuilt)) bytes e = fault_there one bytes line e
+given_told one (Err NoMemory) bytes e = tt

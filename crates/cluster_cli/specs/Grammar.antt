@@ -1,5 +1,5 @@
 -- The grammar of schedule texts, between bytes and a schedule: what the lines look like, and nothing of how they are read.
-use Rattle.std.specs.Prelude.{◌≡◌, ℕ, ◌+◌, ◌^◌, ◌<◌, ◌≤◌, ◌⊎◌, IsTrue, List, [], ◌∷◌, ◌++◌, length, Option, Some, None, codes}
+use Rattle.std.specs.Prelude.{◌≡◌, ℕ, ◌+◌, ◌^◌, ◌<◌, ◌≤◌, ◌⊎◌, IsTrue, List, [], ◌∷◌, ◌++◌, length, Option, Some, None, Result, Ok, Err, codes}
 use Rattle.std.specs.List.{AllByRecursion}
 use Rattle.base_ids.specs.declared.ids.HostId.{HostId}
 use Rattle.base_ids.specs.declared.ids.LaneId.{LaneId}
@@ -18,6 +18,9 @@ use Rattle.cluster_cli.specs.declared.schedule.LineRef.{LineRef}
 use Rattle.cluster_cli.specs.declared.schedule.LineRef.TheVariants.{Line}
 use Rattle.cluster_cli.specs.declared.schedule.LineEvent.{LineEvent}
 use Rattle.cluster_cli.specs.declared.schedule.LineEvent.TheVariants.{Begin, Take, Timeout, Serve}
+use Rattle.cluster_cli.specs.declared.text.ParseError.{ParseError}
+use Rattle.cluster_cli.specs.declared.text.ParseError.TheVariants.{Refused, NoMemory}
+use Rattle.cluster_cli.specs.declared.text.TextRule.TheVariants.{NotBuilt}
 use Rattle.token_ring.specs.declared.token.Token.{Token}
 use Rattle.cell_merge.specs.declared.cell.Cell.{Cell}
 use Rattle.cluster_cli.specs.GrammarWords.{IsFree, AreWords, AtColons, AtDots, IsDigit, IsNumberBelow, IsTokenWord, IsCell}
@@ -197,8 +200,8 @@ pub record IsBeginning (lines : List (List ℕ)) : Type 0 where
   pub schedule : Schedule
   pub whole : IsSchedule (ended lines ++ behind) schedule
 
--- the line of this number is at fault: those before it begin a text that is in the grammar, and with it they do not; or
--- it is missing, or LF does not end it, where the text may not end
+-- the line of this number is the first at fault: those before it begin a text that is in the grammar, and with it they do
+-- not, or no LF ends it, or the text ends before it and may not
 pub record IsFaultAt (bytes : List ℕ) (number : ℕ) : Type 0 where
   pub lines : List (List ℕ)
   pub rest : List ℕ
@@ -208,3 +211,10 @@ pub record IsFaultAt (bytes : List ℕ) (number : ℕ) : Type 0 where
   pub begins : IsBeginning lines
   pub fault : (line behind : List ℕ) → IsFree 10 line → rest ≡ line ++ (codes "\n" ++ behind) → IsBeginning (lines ++ line ∷ []) → ⊥
   pub not_whole : (schedule : Schedule) → IsSchedule bytes schedule → ⊥
+
+-- what the code gives for a text: the schedule that the text is in the grammar with, or the line at fault, unless memory
+-- was refused
+abbrev pub IsTold : List ℕ → Result Schedule ParseError → Type 0
+IsTold bytes (Ok schedule) = IsSchedule bytes schedule
+IsTold bytes (Err (Refused line NotBuilt)) = IsFaultAt bytes line
+IsTold bytes (Err NoMemory) = Unit {0}

@@ -22,7 +22,7 @@ pub record ArePieces (separator : ℕ) (pieces : List (List ℕ)) (bytes : List 
   pub free : AllByRecursion (IsFree separator) pieces
   pub spelt : bytes ≡ joined separator pieces
 
--- a line is words, one space (byte 32) apart
+-- a line is words, one space (byte 32) apart; an empty word is of no form below
 abbrev pub AreWords : List (List ℕ) → List ℕ → Type 0
 AreWords words line = ArePieces 32 words line
 
