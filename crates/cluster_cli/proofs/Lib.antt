@@ -1,4 +1,9 @@
 pub mod EndingLemmas
+pub mod GrammarFaults
+pub mod GrammarLines
+pub mod GrammarNumbers
+pub mod GrammarPieces
+pub mod GrammarText
 pub mod PlayLemmas
 pub mod TextCutLemmas
 pub mod TextCellLemmas

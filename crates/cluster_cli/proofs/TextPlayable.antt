@@ -30,15 +30,15 @@ use Rattle.cluster_cli.specs.Text.{Gives, at_line, header_of, events_of, reading
 
 -- ---- steps that gave something
 
-some_step : {A B : Type 0} (o : Option A) (f : A → Option B) (y : B) → option_and_then f o ≡ Some y → (x : A) × (o ≡ Some x) × (f x ≡ Some y)
+pub some_step : {A B : Type 0} (o : Option A) (f : A → Option B) (y : B) → option_and_then f o ≡ Some y → (x : A) × (o ≡ Some x) × (f x ≡ Some y)
 some_step None f y e = cc
 some_step (Some x) f y e = (x, refl, e)
 
-ok_step : {A B : Type 0} (r : Result A ℕ) (f : A → Result B ℕ) (y : B) → text.◌>>=◌ r f ≡ Ok y → (x : A) × (r ≡ Ok x) × (f x ≡ Ok y)
+pub ok_step : {A B : Type 0} (r : Result A ℕ) (f : A → Result B ℕ) (y : B) → text.◌>>=◌ r f ≡ Ok y → (x : A) × (r ≡ Ok x) × (f x ≡ Ok y)
 ok_step (Ok x) f y e = (x, refl, e)
 ok_step (Err line) f y e = cc
 
-at_step : {X : Type 0} (number : ℕ) (o : Option X) (x : X) → at_line number o ≡ Ok x → o ≡ Some x
+pub at_step : {X : Type 0} (number : ℕ) (o : Option X) (x : X) → at_line number o ≡ Ok x → o ≡ Some x
 at_step number None x e = cc
 at_step number (Some y) x e = cc
 
@@ -115,7 +115,7 @@ table_read hosts line found e =
     let same : made ≡ found = same_Some made found b.2 in
     subst (IsTablet hosts) (ap (λ (pair : TableId × List Replica). pair.1) same) (tablet_read hosts a.0.1 b.0 b.1)
 
-both : (a b : Bool) → (a && b) ≡ true → (a ≡ true) × (b ≡ true)
+pub both : (a b : Bool) → (a && b) ≡ true → (a ≡ true) × (b ≡ true)
 both true b e = (refl, e)
 both false b e = cc
 
@@ -136,7 +136,7 @@ opening_made hosts lanes table replicas h l t =
       placed = t.placed_all;
     }
 
-same_Ok : {X : Type 0} (x y : X) → ◌≡◌ {A = Result X ℕ} (Ok x) (Ok y) → x ≡ y
+pub same_Ok : {X : Type 0} (x y : X) → ◌≡◌ {A = Result X ℕ} (Ok x) (Ok y) → x ≡ y
 same_Ok x y e = cc
 
 hosts_read : (line : List ℕ) (n : ℕ) → hosts_of line ≡ Some n → IsCount 64 n

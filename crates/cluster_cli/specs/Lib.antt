@@ -1,3 +1,5 @@
+pub mod Grammar
+pub mod GrammarWords
 pub mod Play
 pub mod Program
 pub mod Report

@@ -1,5 +1,6 @@
 // The reading of a schedule text.
-ghost use Rattle.std.specs.Prelude.{◌≡◌, codes, IfOk};
+ghost use Rattle.std.specs.Prelude.{◌≡◌, ◌⊎◌, ℕ, List, Ok, Err, codes, IfOk};
+ghost use Rattle.cluster_cli.specs.Grammar.{IsSchedule, IsFaultAt, IsTold};
 ghost use Rattle.cluster_cli.specs.Schedule.{IsPlayable};
 ghost use Rattle.cluster_cli.specs.Text.{reading, Gives};
 
@@ -91,15 +92,34 @@ fn read(alloc: Global, bytes: &[u8]) -> Result<Schedule, ParseError>
 /// label `LABEL:` before it or without. The form is this project's own.
 ///
 /// `Refused` comes exactly where a line is of no such form, or the text ends before `go`; it names the first such line, or the
-/// count of lines plus 1. `NoMemory` comes where memory was refused.
+/// count of lines plus 1. `NoMemory` comes where memory was refused. The grammar is `IsSchedule` of specs/Grammar.antt, apart
+/// from how a text is read; `grammar_laws` has it in both directions.
 pub fn parse(alloc: Global, bytes: &[u8]) -> Result<Schedule, ParseError>
     // A schedule is given exactly where one is read, and it is that one; a line is refused exactly where it is at fault.
     ensures exact { Gives (λ schedule. schedule) result (reading bytes.now) }
+    // A schedule that is given is that of the grammar, and a line that is refused is the first at fault.
+    ensures told { IsTold bytes.now result }
     // What is read can be played.
     ensures playable { IfOk result IsPlayable }
 {
     read(alloc, bytes)
 }
+
+/// The reading and the grammar tell the same of each text. It does nothing: its clauses are what it is for.
+pub fn grammar_laws()
+    // What is read is in the grammar.
+    ensures found { (bytes : List ℕ) (schedule : Schedule) → reading bytes ≡ Ok schedule → IsSchedule bytes schedule }
+    // What is in the grammar is read.
+    ensures only { (bytes : List ℕ) (schedule : Schedule) → IsSchedule bytes schedule → reading bytes ≡ Ok schedule }
+    // The line that is named is the first one at fault.
+    ensures named { (bytes : List ℕ) (line : ℕ) → reading bytes ≡ Err line → IsFaultAt bytes line }
+    // The first line at fault is named.
+    ensures fault { (bytes : List ℕ) (line : ℕ) → IsFaultAt bytes line → reading bytes ≡ Err line }
+    // Each text is in the grammar, or has a first line at fault.
+    ensures told { (bytes : List ℕ) → ((schedule : Schedule) × IsSchedule bytes schedule) ⊎ ((line : ℕ) × IsFaultAt bytes line) }
+    // No text is in the grammar with two schedules.
+    ensures one { (bytes : List ℕ) (a b : Schedule) → IsSchedule bytes a → IsSchedule bytes b → a ≡ b }
+{}
 
 #[cfg(test)]
 mod tests;
