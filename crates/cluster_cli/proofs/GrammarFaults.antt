@@ -282,17 +282,18 @@ fault_of one bytes lines tail at cuts count e begins =
       count = count;
       begins = begins;
       fault = λ line behind free next b.
-        let all : List (List ℕ) = lines ++ line ∷ [] in
-        let free_all : AllByRecursion (IsFree 10) all = free_more lines line a.free free in
-        let spelt : bytes ≡ ended all ++ behind = a.spelt ∙ ap (λ (x : List ℕ). ended lines ++ x) next ∙ sym (ended_one lines line behind) in
-        let here : lines_of bytes ≡ whole_lines all ++ lines_of behind = ap lines_of spelt ∙ lines_again all behind free_all in
-        let there : lines_of (ended all ++ b.behind) ≡ whole_lines all ++ lines_of b.behind = lines_again all b.behind free_all in
-        let size : length all ≡ length lines + 1 = length-append lines (line ∷ []) in
-        let bad : reading (ended all ++ b.behind) ≡ Err at = same_fault bytes (ended all ++ b.behind) all (lines_of behind) (lines_of b.behind) at here there (omega arith) e in
-        let good : reading (ended all ++ b.behind) ≡ Ok b.schedule = reading_back one (ended all ++ b.behind) b.schedule b.whole in
-        never (reading (ended all ++ b.behind)) b.schedule at good bad;
+          let all : List (List ℕ) = lines ++ line ∷ [] in
+          let free_all : AllByRecursion (IsFree 10) all = free_more lines line a.free free in
+          let spelt : bytes ≡ ended all ++ behind = a.spelt ∙ ap (λ (x : List ℕ). ended lines ++ x) next ∙ sym (ended_one lines line behind) in
+          let here : lines_of bytes ≡ whole_lines all ++ lines_of behind = ap lines_of spelt ∙ lines_again all behind free_all in
+          let there : lines_of (ended all ++ b.behind) ≡ whole_lines all ++ lines_of b.behind = lines_again all b.behind free_all in
+          let size : length all ≡ length lines + 1 = length-append lines (line ∷ []) in
+          let bad : reading (ended all ++ b.behind) ≡ Err at = same_fault bytes (ended all ++ b.behind) all (lines_of behind) (lines_of b.behind) at here there (omega arith) e in
+          let good : reading (ended all ++ b.behind) ≡ Ok b.schedule = reading_back one (ended all ++ b.behind) b.schedule b.whole in
+          never (reading (ended all ++ b.behind)) b.schedule at good bad;
       not_whole = λ schedule is. never (reading bytes) schedule at (reading_back one bytes schedule is) e;
     }
+
 -- ---- what begins a text in the grammar
 
 zero_below : (limit : ℕ) → 0 < limit → IsNumberBelow limit (codes "0") 0
@@ -463,19 +464,19 @@ events_begin lines opening behind h at x =
       spelt = h.first ∙ ap (λ (y : Lines). Some (codes "tablets 1") ∷ Some h.hosts ∷ Some h.lanes ∷ Some h.table ∷ Some (codes "go") ∷ y) x.spelt;
       count = omega arith;
       begins = λ free.
-        let is : IsSchedule (ended all) (record { opening = opening; lines = x.found }) = record {
-          hosts = h.hosts;
-          lanes = h.lanes;
-          table = h.table;
-          events = x.texts;
-          spelt = refl;
-          free = (free.1.0, (free.1.1.0, (free.1.1.1.0, free.1.1.1.1.1)));
-          is_hosts = h.is_hosts;
-          is_lanes = h.is_lanes;
-          is_table = h.is_table;
-          is_events = x.told;
-        } in
-        record { behind = []; schedule = record { opening = opening; lines = x.found }; whole = subst (λ (y : List ℕ). IsSchedule y (record { opening = opening; lines = x.found })) (sym (append-nil (ended all))) is };
+          let is : IsSchedule (ended all) (record { opening = opening; lines = x.found }) = record {
+            hosts = h.hosts;
+            lanes = h.lanes;
+            table = h.table;
+            events = x.texts;
+            spelt = refl;
+            free = (free.1.0, (free.1.1.0, (free.1.1.1.0, free.1.1.1.1.1)));
+            is_hosts = h.is_hosts;
+            is_lanes = h.is_lanes;
+            is_table = h.is_table;
+            is_events = x.told;
+          } in
+          record { behind = []; schedule = record { opening = opening; lines = x.found }; whole = subst (λ (y : List ℕ). IsSchedule y (record { opening = opening; lines = x.found })) (sym (append-nil (ended all))) is };
     }
 
 reading_halts : (bytes : List ℕ) (at : ℕ) → reading bytes ≡ Err at → Halts (lines_of bytes) at
@@ -529,7 +530,7 @@ too_late one bytes number at f e h =
     let count_f : number ≡ length f.lines + 1 = f.count in
     let count_g : at ≡ length g.lines + 1 = g.count in
     let cuts : whole_lines f.lines ++ lines_of f.rest ≡ whole_lines g.lines ++ lines_of g.rest =
-          sym (ap lines_of f.spelt ∙ lines_again f.lines f.rest f.free) ∙ (ap lines_of g.spelt ∙ lines_again g.lines g.rest g.free) in
+    sym (ap lines_of f.spelt ∙ lines_again f.lines f.rest f.free) ∙ (ap lines_of g.spelt ∙ lines_again g.lines g.rest g.free) in
     let x : Goes f.lines g.lines (lines_of f.rest) (lines_of g.rest) = goes_on f.lines g.lines (lines_of f.rest) (lines_of g.rest) cuts (omega arith) in
     let a : AreLines (x.line ∷ []) (whole_lines x.more ++ lines_of g.rest) f.rest = are_lines f.rest (x.line ∷ []) (whole_lines x.more ++ lines_of g.rest) x.next in
     let next : f.rest ≡ x.line ++ (codes "\n" ++ a.rest) = a.spelt ∙ append_assoc x.line (codes "\n" ++ []) a.rest in
@@ -537,7 +538,7 @@ too_late one bytes number at f e h =
     let whole : IsSchedule (ended (f.lines ++ x.line ∷ x.more) ++ b.behind) b.schedule = subst (λ (z : List (List ℕ)). IsSchedule (ended z ++ b.behind) b.schedule) x.whole b.whole in
     let regrouped : f.lines ++ x.line ∷ x.more ≡ (f.lines ++ x.line ∷ []) ++ x.more = sym (append_assoc f.lines (x.line ∷ []) x.more) in
     let spelt : ended (f.lines ++ x.line ∷ x.more) ++ b.behind ≡ ended (f.lines ++ x.line ∷ []) ++ (ended x.more ++ b.behind) =
-          ap (λ (z : List (List ℕ)). ended z ++ b.behind) regrouped ∙ ap (λ (z : List ℕ). z ++ b.behind) (ended_more (f.lines ++ x.line ∷ []) x.more) ∙ append_assoc (ended (f.lines ++ x.line ∷ [])) (ended x.more) b.behind in
+    ap (λ (z : List (List ℕ)). ended z ++ b.behind) regrouped ∙ ap (λ (z : List ℕ). z ++ b.behind) (ended_more (f.lines ++ x.line ∷ []) x.more) ∙ append_assoc (ended (f.lines ++ x.line ∷ [])) (ended x.more) b.behind in
     let begins : IsBeginning (f.lines ++ x.line ∷ []) = record { behind = ended x.more ++ b.behind; schedule = b.schedule; whole = subst (λ (z : List ℕ). IsSchedule z b.schedule) spelt whole } in
     f.fault x.line a.rest a.free.0 next begins
 

@@ -118,7 +118,7 @@ table_there hosts line found e =
     let p = both (nat_le 1 (length r.0)) _ t.0 in
     let q = both (nat_le (length r.0) 8) (has_distinct_hosts r.0) p.1 in
     let cuts : pieces_of 32 line ≡ codes "table" ∷ f.0.0 ∷ codes "0" ∷ h.0 =
-          after_then (codes "table") (words_of line) d.0 d.1 ∙ ap (λ (x : List (List ℕ)). codes "table" ∷ x) (first_then d.0 f.0 f.1 ∙ ap (λ (x : List (List ℕ)). f.0.0 ∷ x) (after_then (codes "0") f.0.1 h.0 h.1)) in
+    after_then (codes "table") (words_of line) d.0 d.1 ∙ ap (λ (x : List (List ℕ)). codes "table" ∷ x) (first_then d.0 f.0 f.1 ∙ ap (λ (x : List (List ℕ)). f.0.0 ∷ x) (after_then (codes "0") f.0.1 h.0 h.1)) in
     let places : h.0 ≡ a.0.1 = ap (λ (x : TableId × List (List ℕ)). x.1) same in
     let each : AreReplicas hosts h.0 r.0 = subst (λ (x : List (List ℕ)). AreReplicas hosts x r.0) (sym places) (replicas_there hosts a.0.1 r.0 r.1) in
     let is : IsTableLine hosts line start.0 r.0 = record { name = f.0.0; places = h.0; words = pieces_are 32 line _ cuts; number = number_there (2 ^ 32) f.0.0 g.0 g.1; each = each; some = at_least 1 (length r.0) p.0; few = at_least (length r.0) 8 q.0; distinct = q.1 } in
@@ -314,7 +314,7 @@ operation_there words operation e =
     let is_token : IsTokenWord d.0.0 g.0 = token_there d.0.0 g.0 g.1 in
     let spelt : words ≡ a.0.0 ∷ b.0.0 ∷ d.0.0 ∷ d.0.1 = first_then words a.0 a.1 ∙ ap (λ (x : List (List ℕ)). a.0.0 ∷ x) (first_then a.0.1 b.0 b.1 ∙ ap (λ (x : List (List ℕ)). b.0.0 ∷ x) (first_then b.0.1 d.0 d.1)) in
     let named : (verb : List ℕ) → bytes_eq a.0.0 verb ≡ true → IsOperation (verb ∷ b.0.0 ∷ d.0.0 ∷ d.0.1) operation → IsOperation words operation
-          = λ verb q is. subst (λ (x : List (List ℕ)). IsOperation x operation) (sym (spelt ∙ ap (λ (x : List ℕ). x ∷ b.0.0 ∷ d.0.0 ∷ d.0.1) (spelt_so a.0.0 verb q))) is in
+    = λ verb q is. subst (λ (x : List (List ℕ)). IsOperation x operation) (sym (spelt ∙ ap (λ (x : List ℕ). x ∷ b.0.0 ∷ d.0.0 ∷ d.0.1) (spelt_so a.0.0 verb q))) is in
     elim (which (bytes_eq a.0.0 (codes "write")) (write_of table g.0 d.0.1) _ (Some operation) g.2) [
       | inl p ↦ named (codes "write") p.0 (write_there b.0.0 d.0.0 d.0.1 table g.0 operation is_table is_token p.1)
       | inr p ↦ elim (which (bytes_eq a.0.0 (codes "read")) (read_of table g.0 d.0.1) None (Some operation) p.1) [
@@ -378,7 +378,7 @@ unfolding event_of
 event_there opening named labels ties words event e =
     let a = some_step (first_of words) _ event e in
     let as_verb : (verb : List ℕ) → bytes_eq a.0.0 verb ≡ true → IsEvent opening labels (verb ∷ a.0.1) event → IsEvent opening labels words event
-          = λ verb q is. subst (λ (x : List (List ℕ)). IsEvent opening labels x event) (sym (first_then words a.0 a.1 ∙ ap (λ (x : List ℕ). x ∷ a.0.1) (spelt_so a.0.0 verb q))) is in
+    = λ verb q is. subst (λ (x : List (List ℕ)). IsEvent opening labels x event) (sym (first_then words a.0 a.1 ∙ ap (λ (x : List ℕ). x ∷ a.0.1) (spelt_so a.0.0 verb q))) is in
     elim (which (bytes_eq a.0.0 (codes "begin")) (begin_of opening a.0.1) _ (Some event) a.2) [
       | inl p ↦ as_verb (codes "begin") p.0 (begin_there opening labels a.0.1 event p.1)
       | inr p ↦ elim (which (bytes_eq a.0.0 (codes "take")) (take_of opening named a.0.1) _ (Some event) p.1) [

@@ -277,7 +277,7 @@ cell_there word cell e =
     let g = some_step (body_of a.0.0 d.0) _ cell f.2 in
     let made : Cell = record { timestamp = f.0; body = g.0 } in
     let cuts : pieces_of 58 word ≡ a.0.0 ∷ b.0.0 ∷ d.0 ∷ [] =
-          first_then (pieces_of 58 word) a.0 a.1 ∙ ap (λ (x : List (List ℕ)). a.0.0 ∷ x) (first_then a.0.1 b.0 b.1 ∙ ap (λ (x : List (List ℕ)). b.0.0 ∷ x) (only_then b.0.1 d.0 d.1)) in
+    first_then (pieces_of 58 word) a.0 a.1 ∙ ap (λ (x : List (List ℕ)). a.0.0 ∷ x) (first_then a.0.1 b.0 b.1 ∙ ap (λ (x : List (List ℕ)). b.0.0 ∷ x) (only_then b.0.1 d.0 d.1)) in
     let is : IsCell word made = record { kind = a.0.0; time = b.0.0; last = d.0; parts = pieces_are 58 word _ cuts; timestamp = signed_there b.0.0 f.0 f.1; body = body_there a.0.0 d.0 g.0 g.1 } in
     subst (IsCell word) (same_Some made cell g.2) is
 

@@ -1,3 +1,5 @@
+ghost use Rattle.std.specs.Prelude.{◌<◌};
+
 use crate::program::{Words, cluster_main, play_main};
 use crate::report;
 use base_ids::{HostId, Items, LaneId, MsgRef, NoMemory, OpId, ReplicaList, TableId, Version};
@@ -103,6 +105,54 @@ fn each_status_comes_with_its_text(rt: HostRuntime) -> Result<(), Fail> {
         b"reply 0.0 1 v1 write ok\n",
     )
     .map_err(Fail::from)
+}
+
+/// Plays `SCHEDULE` from a source in pieces of this size, of which one call fails, to a sink of which one call fails, and
+/// compares the status; what was written is a front of what was to be written.
+fn check_front(
+    rt: &impl Abort,
+    alloc: Global,
+    piece: usize,
+    read_fails: u64,
+    write_fails: u64,
+    status: u8,
+    whole: &[u8],
+) -> Result<(), NoMemory>
+    requires { 0 < piece }
+{
+    let bytes = Vec::from_slice(alloc, SCHEDULE)?;
+    let mut source = MemorySource::new(bytes, piece, vec![in alloc; read_fails]?);
+    let mut sink = MemorySink::new(alloc, 5, 4096, vec![in alloc; write_fails]?)?;
+    let outcome = play_main(alloc, &mut source, &mut sink);
+    assert_eq!(rt; outcome.status, status);
+    assert!(rt; whole.starts_with(sink.content()));
+    assert!(rt; status == 6 || sink.content() == whole);
+    Ok(())
+}
+
+/// A fault at the first call, at the second one or at none, of a source in pieces of this size.
+fn check_pieces(rt: &impl Abort, alloc: Global, piece: usize) -> Result<(), NoMemory>
+    requires { 0 < piece }
+{
+    check_front(rt, alloc, piece, 0, 0, 0, REPORT)?;
+    check_front(rt, alloc, piece, 1, 0, 5, b"read-fault\n")?;
+    check_front(rt, alloc, piece, 2, 0, 5, b"read-fault\n")
+}
+
+#[test]
+fn pieces_and_faults_leave_a_front(rt: HostRuntime) -> Result<(), Fail> {
+    let alloc = rt.alloc();
+    check_pieces(&rt, alloc, 1)?;
+    check_pieces(&rt, alloc, 7)?;
+    check_pieces(&rt, alloc, 4096)?;
+    // Each call that writes the report in pieces of 5, and each that writes the line of a read fault.
+    for call in 1..=20 {
+        check_front(&rt, alloc, 7, 0, call, 6, REPORT)?;
+    }
+    for call in 1..=3 {
+        check_front(&rt, alloc, 7, 1, call, 6, b"read-fault\n")?;
+    }
+    Ok(())
 }
 
 #[test]
