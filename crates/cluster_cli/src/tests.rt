@@ -39,6 +39,37 @@ const FULL: &[u8] = b"tablets 1\nhosts 3\nlanes 1\ntable 1 0 0:0 1:0 2:0\ngo\n\
 begin 0.0 read 1 5\nbegin 0.0 read 1 5\nbegin 0.0 read 1 5\nbegin 0.0 read 1 5\nbegin 0.0 read 1 5\n\
 begin 0.0 read 1 5\nbegin 0.0 read 1 5\nbegin 0.0 read 1 5\nbegin 0.0 read 1 5\n";
 
+/// One replica: one answer is enough for a write and for a read.
+const ONE_REPLICA: &[u8] = b"tablets 1\nhosts 1\nlanes 1\ntable 1 0 0:0\ngo\n\
+w: begin 0.0 write 1 5 live:10:61\na: serve 0 w.0\ntake 0.0 a.0\n\
+r: begin 0.0 read 1 5\nb: serve 0 r.0\ntake 0.0 b.0\n";
+
+/// Its report.
+const ONE_REPLICA_REPORT: &[u8] = b"reply 0.0 1 v1 write ok\nreply 0.0 2 v1 read ok live:10:61\n\
+end replies 2 log 0 version 1 fence 1\n";
+
+/// Two replicas, the second host's first: both have to answer.
+const TWO_REPLICAS: &[u8] = b"tablets 1\nhosts 2\nlanes 4\ntable 1 0 1:0 0:0\ngo\n\
+w: begin 1.3 write 1 5 live:10:61\na: serve 1 w.0\ntake 1.3 a.0\nb: serve 0 w.1\ntake 1.3 b.0\n\
+v: begin 1.3 write 1 5 live:11:62\nc: serve 0 v.1\ntake 1.3 c.0\ntimeout 1.3 2\n";
+
+/// Its report.
+const TWO_REPLICAS_REPORT: &[u8] = b"reply 1.3 1 v1 write ok\nreply 1.3 2 v1 write timeout 1 of 2\n\
+end replies 2 log 0 version 1 fence 1\n";
+
+/// Eight replicas: five have to answer, and the second write has four answers when it is given up.
+const EIGHT_REPLICAS: &[u8] = b"tablets 1\nhosts 8\nlanes 1\n\
+table 1 0 0:0 1:0 2:0 3:0 4:0 5:0 6:0 7:0\ngo\n\
+w: begin 0.0 write 1 5 live:10:61\na: serve 0 w.0\nb: serve 1 w.1\nc: serve 2 w.2\nd: serve 3 w.3\n\
+e: serve 7 w.7\ntake 0.0 a.0\ntake 0.0 b.0\ntake 0.0 c.0\ntake 0.0 d.0\ntake 0.0 e.0\n\
+v: begin 0.0 write 1 5 live:11:62\nf: serve 4 v.4\ng: serve 5 v.5\nh: serve 6 v.6\ni: serve 7 v.7\n\
+take 0.0 f.0\ntake 0.0 g.0\ntake 0.0 h.0\ntake 0.0 i.0\ntimeout 0.0 2\n";
+
+/// Its report.
+const EIGHT_REPLICAS_REPORT: &[u8] =
+    b"reply 0.0 1 v1 write ok\nreply 0.0 2 v1 write timeout 4 of 5\n\
+end replies 2 log 0 version 1 fence 1\n";
+
 /// After one reply a lane takes a message that is no answer, in line 8.
 const STOPPED: &[u8] = b"tablets 1\nhosts 3\nlanes 1\ntable 1 0 0:0 1:0 2:0\ngo\n\
 begin 0.0 read 2 5\nw: begin 0.0 write 1 5 dead:-10:7\ntake 0.0 w.0\nbegin 0.0 read 2 5\n";
@@ -167,6 +198,17 @@ not-enabled line 12 NoRequest\n";
     let full = &mut source(alloc, FULL, 0)?;
     let line = b"not-enabled line 14 LaneFull\n";
     check(&rt, alloc, b"play", full, 0, 4, line).map_err(Fail::from)
+}
+
+#[test]
+fn lists_of_one_two_and_eight_replicas_are_played(rt: HostRuntime) -> Result<(), Fail> {
+    let alloc = rt.alloc();
+    let one = &mut source(alloc, ONE_REPLICA, 0)?;
+    check(&rt, alloc, b"play", one, 0, 0, ONE_REPLICA_REPORT)?;
+    let two = &mut source(alloc, TWO_REPLICAS, 0)?;
+    check(&rt, alloc, b"play", two, 0, 0, TWO_REPLICAS_REPORT)?;
+    let eight = &mut source(alloc, EIGHT_REPLICAS, 0)?;
+    check(&rt, alloc, b"play", eight, 0, 0, EIGHT_REPLICAS_REPORT).map_err(Fail::from)
 }
 
 #[test]

@@ -73,7 +73,7 @@ pub record IsReadBound (past : List Entry) : Type 0 where
   pub not_below : (wrote acked begin told : ℕ) (writer reader : LaneId) (write read : OpId) (table : TableId) (token : Token) (written : Cell) (cell : Option Cell) → IsBegunAt past wrote writer write (WriteOf table token written) → IsToldAt past acked writer write Ok → acked < begin → IsBegunAt past begin reader read (ReadOf table token) → IsToldAt past told reader read (Read cell) → IsNotBelow cell (Some written)
 
 -- After this history the request is refused by so many replicas that the others are fewer than needed. Each of
--- these told a fence above the request's version, and its host has no lower fence; the last told this fence.
+-- these told a fence above the request's version, and its host has no lower fence; above it is the fence of the reply too.
 pub record IsBelowFences (opening : Opening) (past : List Entry) (lane : LaneId) (op : OpId) (refused : ℕ) (fence : Version) : Type 0 where
   pub request : Request
   pub begun : request_at opening past lane op ≡ Some request
