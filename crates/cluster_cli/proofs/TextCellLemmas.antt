@@ -1,5 +1,5 @@
 -- What the loop over hexadecimal digits keeps, and which token a number is.
-use Rattle.std.proofs.Common.{◌≡◌, ℕ, suc, ◌+◌, ◌-◌, ◌*◌, ◌%◌, ◌/◌, ◌<◌, ◌≤◌, ◌↔◌, ◌++◌, ◌&&◌, ℤ, Bool, true, false, cond, List, [], ◌∷◌, length, take, drop, append-nil, get_or, set, Option, Some, None, IsNone, IsSome, IfSome, refl, sym, ap, subst, ◌∙◌, arith, append_assoc}
+use Rattle.std.proofs.Common.{◌≡◌, ℕ, suc, ◌+◌, ◌*◌, ◌%◌, ◌/◌, ◌<◌, ◌≤◌, ◌↔◌, ◌++◌, ℤ, Bool, true, false, List, [], ◌∷◌, length, take, drop, append-nil, get_or, set, Option, Some, None, IsNone, IsSome, IfSome, refl, sym, ap, subst, ◌∙◌, arith, append_assoc}
 use Rattle.std.specs.Option.{option_map}
 use Rattle.std.proofs.Math.Seq.{drop-cons}
 use Rattle.std.proofs.lemmas.Grind.{common_steps}

@@ -1,5 +1,5 @@
 -- What the loop over the replicas of a table keeps.
-use Rattle.std.proofs.Common.{◌≡◌, ℕ, ◌++◌, List, [], ◌∷◌, Option, Some, None, refl, sym, ap, subst, ◌∙◌, append_assoc, append-nil}
+use Rattle.std.proofs.Common.{◌≡◌, ℕ, ◌++◌, List, [], ◌∷◌, Option, Some, None, refl, sym, ap, append_assoc, append-nil}
 use Rattle.std.specs.Option.{option_map}
 use Rattle.base_ids.specs.declared.ids.Replica.{Replica}
 use Rattle.cluster_cli.specs.TextCuts.{◌>>=◌, first_of}

@@ -1,5 +1,5 @@
 -- What the loop over the lines behind the header keeps.
-use Rattle.std.proofs.Common.{◌≡◌, ℕ, zero, suc, ◌+◌, ◌<◌, ◌≤◌, ◌==◌, ◌++◌, Bool, true, false, cond, List, [], ◌∷◌, length, Option, Some, None, Result, Ok, Err, refl, sym, ap, subst, ◌∙◌, append_assoc, append-nil, arith}
+use Rattle.std.proofs.Common.{◌≡◌, ℕ, suc, ◌+◌, ◌<◌, ◌≤◌, ◌==◌, ◌++◌, true, false, cond, List, [], ◌∷◌, length, Option, Some, None, Result, Ok, Err, refl, sym, ap, ◌∙◌, append_assoc, arith}
 use Rattle.std.proofs.lemmas.Option.{some_pair_parts}
 use Rattle.cluster_history.specs.declared.data.Opening.{Opening}
 use Rattle.cluster_cli.specs.declared.schedule.SchedLine.{SchedLine}
@@ -7,7 +7,7 @@ use Rattle.cluster_cli.specs.declared.schedule.LineAct.TheVariants.{Event}
 use Rattle.cluster_cli.specs.declared.schedule.LineEvent.{LineEvent}
 use Rattle.cluster_cli.specs.TextCuts.{lines_of, first_line, onto_line}
 use Rattle.cluster_cli.specs.TextEvents.{line_of, with_label}
-use Rattle.cluster_cli.specs.Text.{◌>>=◌, at_line, events_of}
+use Rattle.cluster_cli.specs.Text.{◌>>=◌, events_of}
 
 -- lines in front of those that were read
 abbrev pub after_lines : List SchedLine → Result (List SchedLine) ℕ → Result (List SchedLine) ℕ

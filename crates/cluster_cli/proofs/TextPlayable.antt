@@ -1,8 +1,7 @@
 -- A text that is read gives a schedule that can be played.
-use Rattle.std.proofs.Common.{◌≡◌, ℕ, ◌+◌, ◌^◌, ◌<◌, ◌≤◌, ◌==◌, ◌&&◌, ◌||◌, Bool, true, false, cond, nat_lt, nat_le, List, [], ◌∷◌, length, Option, Some, None, Result, Ok, Err, IsTrue, IfSome, codes, IfOk, is_some, eq-eqb, ◌⊎◌, inl, inr, refl, sym, ap, subst, ◌∙◌, arith}
+use Rattle.std.proofs.Common.{◌≡◌, ℕ, ◌+◌, ◌^◌, ◌<◌, ◌≤◌, ◌==◌, ◌&&◌, ◌||◌, Bool, true, false, cond, nat_lt, nat_le, List, [], ◌∷◌, length, Option, Some, None, Result, Ok, Err, IsTrue, codes, IfOk, is_some, eq-eqb, ◌⊎◌, inl, inr, refl, ap, subst, ◌∙◌, arith}
 use Rattle.std.specs.Option.{option_and_then}
-use Rattle.std.specs.List.{All, list_any}
-use Rattle.std.specs.Map.{update}
+use Rattle.std.specs.List.{All}
 use Rattle.std.specs.Str.{bytes_eq}
 use Rattle.std.proofs.lemmas.Option.{cond_some, same_Some}
 use Rattle.std.proofs.lemmas.List.Elements.{All-cons}
@@ -12,7 +11,6 @@ use Rattle.base_ids.specs.declared.ids.LaneId.{LaneId}
 use Rattle.base_ids.specs.declared.ids.Replica.{Replica}
 use Rattle.base_ids.specs.declared.ids.TableId.{TableId}
 use Rattle.cluster_history.specs.declared.data.Opening.{Opening}
-use Rattle.cluster_history.specs.declared.data.Operation.{Operation}
 use Rattle.cluster_history.specs.Openings.{HasHost, HasLane, IsPlacedBelow, IsValidOpening, has_distinct_hosts}
 use Rattle.cluster_cli.specs.declared.schedule.Schedule.{Schedule}
 use Rattle.cluster_cli.specs.declared.schedule.SchedLine.{SchedLine}
@@ -21,12 +19,11 @@ use Rattle.cluster_cli.specs.declared.schedule.LineRef.{LineRef}
 use Rattle.cluster_cli.specs.declared.schedule.LineRef.TheVariants.{Line}
 use Rattle.cluster_cli.specs.declared.schedule.LineEvent.{LineEvent}
 use Rattle.cluster_cli.specs.declared.schedule.LineEvent.TheVariants.{Begin, Take, Timeout, Serve}
-use Rattle.cluster_cli.specs.Schedule.{HasActorOf, has_event_at, IsNamedIn, NamesIn, IsBelowNumber, IsPlayableAct, IsPlayableLine, ArePlayable, IsPlayable}
+use Rattle.cluster_cli.specs.Schedule.{HasActorOf, has_event_at, IsNamedIn, NamesIn, IsBelowNumber, ArePlayable, IsPlayable}
 use Rattle.cluster_cli.specs.TextCuts.{words_of, at_colons, at_dots, first_of, only_of, after_word, first_line, lines_of}
 use Rattle.cluster_cli.specs.TextNumbers.{unsigned_of, number_below}
 use Rattle.cluster_cli.specs.TextHeader.{count_of, hosts_of, lanes_of, replica_of, replicas_of, are_replicas, tablet_of, table_start_of, table_of, after_line, first_as}
 use Rattle.cluster_cli.specs.TextEvents.{host_of, lane_of, label_of, reference_of, operation_of, begin_of, take_of, timeout_of, serve_of, event_of, unlabelled_of, labelled_of, by_label, line_of, with_label}
-use Rattle.cluster_cli.specs.TextCuts as cuts
 use Rattle.cluster_cli.specs.Text as text
 use Rattle.cluster_cli.specs.declared.text.ParseError.{ParseError}
 use Rattle.cluster_cli.specs.Text.{Gives, at_line, header_of, events_of, reading}

@@ -5,7 +5,6 @@ use Rattle.std.specs.Map.{update}
 use Rattle.std.specs.Str.{bytes_eq}
 use Rattle.base_ids.specs.declared.ids.HostId.{HostId}
 use Rattle.base_ids.specs.declared.ids.LaneId.{LaneId}
-use Rattle.base_ids.specs.declared.ids.OpId.{OpId}
 use Rattle.base_ids.specs.declared.ids.TableId.{TableId}
 use Rattle.token_ring.specs.declared.token.Token.{Token}
 use Rattle.cluster_history.specs.declared.data.Opening.{Opening}

@@ -5,8 +5,7 @@ ghost use Rattle.fault_io.specs.Counts.{Rose};
 ghost use Rattle.fault_io.specs.Given.{TakesBytes};
 ghost use Rattle.fault_io.specs.Held.{after_held, AddsPart};
 ghost use Rattle.cluster_history.specs.Legal.{IsLegalRun, opening_journal};
-ghost use Rattle.register_model.specs.Register.{IsRegisterRun};
-ghost use Rattle.overlap_law.specs.ClientEvents.{client_events};
+ghost use Rattle.overlap_law.specs.Headline.{IsHeadline};
 ghost use Rattle.cluster_cli.specs.Play.{Stop, played};
 ghost use Rattle.cluster_cli.specs.Program.{no_journal, refused_line, stopped_lines, play_ending, reading_ending, ending_of, command_ending, usage_ending, is_play, CameTo, CameToError, Answers};
 ghost use Rattle.cluster_cli.specs.Report.{report};
@@ -23,7 +22,7 @@ use base_ids::{EventRule, Items, Line, NoMemory, ReplicaList, TableId, Text};
 use cluster_history::{Journal, Opening};
 use cluster_machine::Machine;
 use fault_io::{ReadError, Sink, Source, WriteFault, read_all, write_all};
-use overlap_law::law_refine;
+use overlap_law::law_headline;
 use std::alloc::Global;
 
 /// The words of a command, after the program's name.
@@ -247,8 +246,12 @@ fn not_read<K: Sink>(alloc: Global, error: ReadError, sink: &mut K) -> Outcome
 /// come. A read fault gives 5, and wins over what the text says; a failed write gives 6 and leaves a part of what was to be
 /// written; want of memory may give 8 at any place, and then some of the first bytes were written.
 pub fn play_main<S: Source, K: Sink>(alloc: Global, source: &mut S, sink: &mut K) -> Outcome
+    // The journal that is kept is a legal run. In it a read returns none or a cell that a write of its key began with, and nothing
+    // below a write of its key that was acknowledged before it began; a request is stale only below fences of as many hosts as
+    // leave too few, and given up only where fewer replicas than required had answered; and what clients saw is a run of the
+    // register machine.
     ensures legal { IsLegalRun result.journal }
-    ensures register { IsRegisterRun (client_events result.journal) }
+    ensures headline { IsHeadline result.journal }
 
     // What was to come of the text came, but for a read fault, a failed write and want of memory.
     ensures told { IfSome (S.left source.old) (λ text. Answers (ending_of text) result (S.faults source.old) (S.faults source.new) (K.held sink.old) (K.held sink.new) (K.faults sink.old) (K.faults sink.new)) }
@@ -266,12 +269,12 @@ pub fn play_main<S: Source, K: Sink>(alloc: Global, source: &mut S, sink: &mut K
     match read_all(alloc, source, INPUT_LIMIT) {
         Ok(bytes) => {
             let outcome = play_text(alloc, bytes.as_slice(), sink);
-            law_refine(&outcome.journal);
+            law_headline(&outcome.journal);
             outcome
         }
         Err(error) => {
             let outcome = not_read(alloc, error, sink);
-            law_refine(&outcome.journal);
+            law_headline(&outcome.journal);
             outcome
         }
     }
@@ -295,8 +298,12 @@ pub fn cluster_main<S: Source, K: Sink>(
     source: &mut S,
     sink: &mut K,
 ) -> Outcome
+    // The journal that is kept is a legal run. In it a read returns none or a cell that a write of its key began with, and nothing
+    // below a write of its key that was acknowledged before it began; a request is stale only below fences of as many hosts as
+    // leave too few, and given up only where fewer replicas than required had answered; and what clients saw is a run of the
+    // register machine.
     ensures legal { IsLegalRun result.journal }
-    ensures register { IsRegisterRun (client_events result.journal) }
+    ensures headline { IsHeadline result.journal }
 
     // Words that are no command give the usage line, and nothing is read.
     ensures usage { is_play words.now ≡ false → CameTo usage_ending result (K.held sink.old) (K.held sink.new) (K.faults sink.old) (K.faults sink.new) }
@@ -320,7 +327,7 @@ pub fn cluster_main<S: Source, K: Sink>(
     } else {
         let usage = b"usage: play | run | trace | gen N\n";
         let outcome = say(sink, usage, Status::Usage, no_journal(alloc));
-        law_refine(&outcome.journal);
+        law_headline(&outcome.journal);
         outcome
     }
 }

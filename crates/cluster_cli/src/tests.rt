@@ -29,6 +29,16 @@ w: begin 0.0 write 1 5 live:10:61\na: serve 0 w.0\ntake 0.0 a.0\ntake 0.0 a.0\nt
 const GIVEN_UP_REPORT: &[u8] = b"reply 0.0 1 v1 write timeout 1 of 2\n\
 end replies 1 log 0 version 1 fence 1\n";
 
+/// The answer to a request that was given up comes while the next one is live; in line 12 neither is.
+const LATE: &[u8] = b"tablets 1\nhosts 3\nlanes 1\ntable 1 0 0:0 1:0 2:0\ngo\n\
+w: begin 0.0 write 1 5 live:10:61\na: serve 0 w.0\ntimeout 0.0 1\nbegin 0.0 write 1 5 live:11:62\n\
+take 0.0 a.0\ntimeout 0.0 2\ntimeout 0.0 1\n";
+
+/// The ninth live request of a lane, in line 14.
+const FULL: &[u8] = b"tablets 1\nhosts 3\nlanes 1\ntable 1 0 0:0 1:0 2:0\ngo\n\
+begin 0.0 read 1 5\nbegin 0.0 read 1 5\nbegin 0.0 read 1 5\nbegin 0.0 read 1 5\nbegin 0.0 read 1 5\n\
+begin 0.0 read 1 5\nbegin 0.0 read 1 5\nbegin 0.0 read 1 5\nbegin 0.0 read 1 5\n";
+
 /// After one reply a lane takes a message that is no answer, in line 8.
 const STOPPED: &[u8] = b"tablets 1\nhosts 3\nlanes 1\ntable 1 0 0:0 1:0 2:0\ngo\n\
 begin 0.0 read 2 5\nw: begin 0.0 write 1 5 dead:-10:7\ntake 0.0 w.0\nbegin 0.0 read 2 5\n";
@@ -66,8 +76,6 @@ fn each_status_comes_with_its_text(rt: HostRuntime) -> Result<(), Fail> {
     let alloc = rt.alloc();
     let good = &mut source(alloc, SCHEDULE, 0)?;
     check(&rt, alloc, b"play", good, 0, 0, REPORT)?;
-    let given_up = &mut source(alloc, GIVEN_UP, 0)?;
-    check(&rt, alloc, b"play", given_up, 0, 0, GIVEN_UP_REPORT)?;
     let usage = b"usage: play | run | trace | gen N\n";
     check(&rt, alloc, b"plays", good, 0, 2, usage)?;
     check(&rt, alloc, b"", good, 2, 6, b"usage")?;
@@ -145,6 +153,20 @@ fn pieces_and_faults_leave_a_front(rt: HostRuntime) -> Result<(), Fail> {
         check_front(&rt, alloc, 7, 1, call, 6, b"read-fault\n")?;
     }
     Ok(())
+}
+
+#[test]
+fn a_request_is_given_up_once(rt: HostRuntime) -> Result<(), Fail> {
+    let alloc = rt.alloc();
+    let given_up = &mut source(alloc, GIVEN_UP, 0)?;
+    check(&rt, alloc, b"play", given_up, 0, 0, GIVEN_UP_REPORT)?;
+    let late = &mut source(alloc, LATE, 0)?;
+    let lines = b"reply 0.0 1 v1 write timeout 0 of 2\nreply 0.0 2 v1 write timeout 0 of 2\n\
+not-enabled line 12 NoRequest\n";
+    check(&rt, alloc, b"play", late, 0, 4, lines)?;
+    let full = &mut source(alloc, FULL, 0)?;
+    let line = b"not-enabled line 14 LaneFull\n";
+    check(&rt, alloc, b"play", full, 0, 4, line).map_err(Fail::from)
 }
 
 #[test]

@@ -1,5 +1,5 @@
 -- The numbers of a lane's live requests, in the history and in its table.
-use Rattle.std.proofs.Common.{◌≡◌, ℕ, ◌+◌, ◌≤◌, ◌==◌, Bool, true, false, not, ◌&&◌, ◌||◌, List, [], ◌∷◌, ◌++◌, length, filter, Option, Some, None, is_some, option_map, cond, if◌then◌else◌, refl, sym, ◌∙◌, ap, arith}
+use Rattle.std.proofs.Common.{◌≡◌, ℕ, ◌+◌, ◌≤◌, ◌==◌, Bool, true, false, not, ◌&&◌, ◌||◌, List, [], ◌∷◌, ◌++◌, filter, Some, None, is_some, cond, if◌then◌else◌, refl, sym, ◌∙◌, ap, arith}
 use Rattle.std.specs.List.{list_any}
 use Rattle.std.specs.Map.{keys_of}
 use Rattle.std.proofs.lemmas.Bool.{eq-eqb}
@@ -12,8 +12,8 @@ use Rattle.base_ids.specs.declared.ids.LaneId.{LaneId}
 use Rattle.base_ids.specs.declared.ids.OpId.{OpId}
 use Rattle.base_ids.specs.declared.ids.Version.{Version}
 use Rattle.request_table.specs.Requests.{is_same, request_of, with_work as with_work_at, without}
-use Rattle.cluster_history.specs.Names.{same_lane, same_op}
-use Rattle.cluster_history.specs.History.{begun, begun_ops, next_op, is_begin_of, is_event_of}
+use Rattle.cluster_history.specs.Names.{same_op}
+use Rattle.cluster_history.specs.History.{begun, begun_ops, next_op, is_begin_of}
 use Rattle.cluster_history.specs.Requests.{begins, is_reply_to, replies_to, is_live, live_ops}
 use Rattle.cluster_history.specs.declared.data.Entry.{Entry}
 use Rattle.cluster_history.specs.declared.data.Event.TheVariants.{Begin}

@@ -1,11 +1,10 @@
 -- Numbers of requests: a lane's requests are those up to the count of its begins, and what a request was begun
 -- as does not change.
-use Rattle.std.proofs.Common.{◌≡◌, ℕ, ◌+◌, ◌≤◌, ◌<◌, ◌==◌, Bool, true, false, not, ◌&&◌, ◌||◌, List, [], ◌∷◌, length, Option, Some, None, if◌then◌else◌, refl, sym, ◌∙◌, ap, subst, arith, inl, inr}
-use Rattle.std.proofs.lemmas.Bool.{eqb-true, eq-eqb, cases_lt}
+use Rattle.std.proofs.Common.{◌≡◌, ℕ, ◌+◌, ◌≤◌, ◌<◌, ◌==◌, Bool, true, false, not, ◌&&◌, ◌||◌, List, [], ◌∷◌, length, Option, Some, None, if◌then◌else◌, refl, sym, ◌∙◌, ap, arith, inl, inr}
+use Rattle.std.proofs.lemmas.Bool.{eq-eqb, cases_lt}
 use Rattle.std.proofs.lemmas.Bool.Decides.{nat_tests}
 use Rattle.base_ids.specs.declared.ids.LaneId.{LaneId}
 use Rattle.base_ids.specs.declared.ids.OpId.{OpId}
-use Rattle.quorum_ops.specs.declared.data.Answer.{Answer}
 use Rattle.cluster_history.specs.Names.{key_of}
 use Rattle.cluster_history.specs.History.{begun, next_op, is_begin_of}
 use Rattle.cluster_history.specs.Requests.{Request, Route, started, begins, request_at, request_on, route_of, quorum, replies_to, is_live, answers_of}
@@ -13,7 +12,7 @@ use Rattle.cluster_history.specs.declared.data.Entry.{Entry}
 use Rattle.cluster_history.specs.declared.data.Event.{Event}
 use Rattle.cluster_history.specs.declared.data.Event.TheVariants.{Begin, Take, Timeout, Serve}
 use Rattle.cluster_history.specs.declared.data.Opening.{Opening}
-use Rattle.overlap_law.proofs.SameLemmas.{and_false, and_true, both_true, same_lane-refl}
+use Rattle.overlap_law.proofs.SameLemmas.{and_false, and_true}
 
 above_step : (begin : Bool) (count op : ℕ) → (if begin then count + 1 else count) < op → ((begin && (op == count + 1)) ≡ false) × (count < op)
 above_step true count op h = (grind (arith, nat_tests), omega arith)

@@ -1,7 +1,7 @@
 -- Counts over a list: more pass a weaker test, and two counts that together pass the length meet.
-use Rattle.std.proofs.Common.{◌≡◌, ℕ, ◌+◌, ◌≤◌, ◌<◌, Bool, true, false, cond, List, [], ◌∷◌, length, refl, ap, ◌∙◌, arith}
+use Rattle.std.proofs.Common.{◌≡◌, ℕ, ◌+◌, ◌≤◌, Bool, true, false, cond, List, [], ◌∷◌, refl, ap, ◌∙◌, arith}
 use Rattle.std.specs.List.{count_by, list_any, slice_get}
-use Rattle.std.proofs.Common.{suc, zero, Option, Some, None, ◌||◌}
+use Rattle.std.proofs.Common.{suc, zero, Some, ◌||◌}
 use Rattle.std.proofs.lemmas.List.Sums.{sum_by-cons}
 use Rattle.overlap_law.proofs.SameLemmas.{or_first, or_second}
 

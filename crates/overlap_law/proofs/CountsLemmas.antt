@@ -1,5 +1,5 @@
 -- Counts of lanes, and what is seen of replies one by one.
-use Rattle.std.proofs.Common.{◌≡◌, ℕ, ◌+◌, ◌^◌, ◌==◌, ◌≤◌, ◌<◌, Bool, true, false, cond, ◌&&◌, Option, Some, List, [], ◌∷◌, ◌++◌, length, reverse, take, get_or, add-one, if◌then◌else◌, refl, sym, ◌∙◌, ap, append_assoc, arith}
+use Rattle.std.proofs.Common.{◌≡◌, ℕ, ◌+◌, ◌^◌, ◌==◌, ◌≤◌, ◌<◌, Bool, true, false, cond, ◌&&◌, Some, List, [], ◌∷◌, ◌++◌, length, reverse, take, get_or, if◌then◌else◌, refl, sym, ◌∙◌, ap, append_assoc, arith}
 use Rattle.std.specs.Ordering.{nat_cmp, ordering_then, is_eq}
 use Rattle.std.specs.declared.cmp.Ordering.{Ordering}
 use Rattle.std.specs.declared.cmp.Ordering.TheVariants.{Less, Equal, Greater}
@@ -13,7 +13,7 @@ use Rattle.cluster_history.specs.History.{begun, is_begin_of}
 use Rattle.cluster_history.specs.declared.data.Entry.{Entry}
 use Rattle.cluster_history.specs.declared.data.Output.{Output}
 use Rattle.cluster_history.specs.declared.data.Output.TheVariants.{Sent, Reply as Replied}
-use Rattle.overlap_law.specs.ClientEvents.{named, reply_event, reply_events, seen_of, seen_in}
+use Rattle.overlap_law.specs.ClientEvents.{named, reply_event, reply_events}
 use Rattle.overlap_law.specs.Counts.{is_at_lane, or_zero, count_at, AreCounts}
 use Rattle.overlap_law.proofs.SameLemmas.{same_lane-same}
 

@@ -1,5 +1,5 @@
 -- How answers decide a request, and that the greatest told cell is not below a cell that enough targets have.
-use Rattle.std.proofs.Common.{◌≡◌, ℕ, ◌+◌, ◌-◌, ◌≤◌, ◌<◌, Bool, true, false, List, [], ◌∷◌, length, count_by, Option, Some, None, if◌then◌else◌, ◌⊎◌, inl, inr, refl, sym, ◌∙◌, ap, nat_le, nat_lt, arith}
+use Rattle.std.proofs.Common.{◌≡◌, ℕ, ◌+◌, ◌-◌, ◌≤◌, ◌<◌, Bool, true, false, List, [], ◌∷◌, length, count_by, Option, Some, None, if◌then◌else◌, ◌⊎◌, inl, inr, refl, nat_le, nat_lt, arith}
 use Rattle.std.proofs.lemmas.Bool.Decides.{nat_tests}
 use Rattle.base_ids.specs.declared.ids.LaneId.{LaneId}
 use Rattle.base_ids.specs.declared.ids.MsgRef.{MsgRef}
@@ -8,17 +8,15 @@ use Rattle.base_ids.specs.declared.ids.TableId.{TableId}
 use Rattle.base_ids.specs.declared.ids.Version.{Version}
 use Rattle.token_ring.specs.declared.token.Token.{Token}
 use Rattle.cell_merge.specs.declared.cell.Cell.{Cell}
-use Rattle.cell_merge.specs.Cell.{greater_cell, IsNotBelow}
+use Rattle.cell_merge.specs.Cell.{IsNotBelow}
 use Rattle.cell_merge.proofs.CellOrder.{not_below, greater-first, greater-second}
 use Rattle.stage_graph.specs.declared.kind.Kind.{Kind}
-use Rattle.stage_graph.specs.declared.kind.Kind.TheVariants.{Read as ReadKind, Write as WriteKind}
 use Rattle.quorum_ops.specs.Decision.{first_said, said_cell, has_answered, answered_count, refused_count, greatest_told, good_reply, decision_by, decision}
 use Rattle.quorum_ops.specs.declared.data.Answer.{Answer}
 use Rattle.quorum_ops.specs.declared.data.Said.{Said}
 use Rattle.quorum_ops.specs.declared.data.Said.TheVariants.{Written, Found, Stale as Refused}
 use Rattle.quorum_ops.specs.declared.data.Reply.{Reply}
-use Rattle.quorum_ops.specs.declared.data.Reply.TheVariants.{Ok, Read, Stale, Timeout}
-use Rattle.cluster_history.specs.Names.{kind_of}
+use Rattle.quorum_ops.specs.declared.data.Reply.TheVariants.{Stale}
 use Rattle.cluster_history.specs.History.{message_at}
 use Rattle.cluster_history.specs.Requests.{answers_of}
 use Rattle.cluster_history.specs.Legal.{broken}
@@ -89,14 +87,15 @@ decided kind targets need answer answers reply e = by_said answer.said e
 
 -- the answers by which a take decides were all sent to the request
 pub decides_taken : (opening : Opening) (past : List Entry) (lane : LaneId) (at : MsgRef) → broken opening past (Take lane at) ≡ None → (decides : Decides opening past lane (message_at past at)) → AllTaken past lane decides.answer.op (decides.answer ∷ answers_of past lane decides.answer.op)
-decides_taken opening past lane at fine decides =
-    (record {
-      at = at;
-      sent = decides.taken;
-      lane_is = answer_addressed opening past lane at decides.answer fine decides.taken;
-      op_is = refl;
-    },
-    answers_taken past lane decides.answer.op)
+decides_taken opening past lane at fine decides = (
+  record {
+    at = at;
+    sent = decides.taken;
+    lane_is = answer_addressed opening past lane at decides.answer fine decides.taken;
+    op_is = refl;
+  },
+  answers_taken past lane decides.answer.op,
+)
 
 -- ---- the greatest cell
 

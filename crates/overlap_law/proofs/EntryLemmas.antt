@@ -1,13 +1,10 @@
 -- Entries by their numbers: what came before them, and where clients saw them.
-use Rattle.std.proofs.Common.{◌≡◌, ℕ, zero, suc, ◌+◌, ◌==◌, ◌≤◌, ◌<◌, Bool, true, false, List, [], ◌∷◌, ◌++◌, length, Option, Some, None, if◌then◌else◌, ◌⊎◌, inl, inr, refl, sym, ◌∙◌, ap, subst, arith}
+use Rattle.std.proofs.Common.{◌≡◌, ℕ, zero, suc, ◌+◌, ◌==◌, ◌≤◌, ◌<◌, true, false, List, [], ◌∷◌, ◌++◌, length, Option, Some, None, if◌then◌else◌, ◌⊎◌, inl, inr, refl, sym, ◌∙◌, ap, subst, arith}
 use Rattle.std.specs.List.{slice_get}
 use Rattle.std.specs.Cmp.{unsigned_Decides}
 use Rattle.std.proofs.lemmas.Bool.Decides.{nat_tests}
 use Rattle.std.proofs.lemmas.List.{length-append}
-use Rattle.std.proofs.lemmas.Option.{slice_get_within}
-use Rattle.base_ids.specs.declared.ids.HostId.{HostId}
 use Rattle.base_ids.specs.declared.ids.LaneId.{LaneId}
-use Rattle.base_ids.specs.declared.ids.MsgRef.{MsgRef}
 use Rattle.base_ids.specs.declared.ids.OpId.{OpId}
 use Rattle.base_ids.specs.declared.ids.TableId.{TableId}
 use Rattle.base_ids.specs.declared.ids.Version.{Version}
@@ -21,9 +18,10 @@ use Rattle.register_model.specs.declared.data.Request.{Request as Named}
 use Rattle.register_model.specs.Register.{begun_by, Stands}
 use Rattle.register_model.proofs.RunLemmas.{stands-more}
 use Rattle.stage_graph.specs.declared.kind.Kind.{Kind}
-use Rattle.cluster_history.specs.Names.{key_of}
-use Rattle.cluster_history.specs.History.{entry_at, next_op, is_event_of}
-use Rattle.cluster_history.specs.Legal.{outputs_of, entry_of, IsNext, IsLegalPast}
+use Rattle.cluster_history.specs.Names.{key_of, same_lane}
+use Rattle.cluster_history.specs.History.{begun, entry_at, next_op, is_event_of}
+use Rattle.cluster_history.specs.Requests.{Request, Route, request_on, route_of, started, begins, request_at}
+use Rattle.cluster_history.specs.Legal.{IsNext, IsLegalPast}
 use Rattle.cluster_history.specs.declared.data.Entry.{Entry}
 use Rattle.cluster_history.specs.declared.data.Event.{Event}
 use Rattle.cluster_history.specs.declared.data.Event.TheVariants.{Begin, Take, Timeout, Serve}
@@ -34,8 +32,8 @@ use Rattle.cluster_history.specs.declared.data.Output.{Output}
 use Rattle.cluster_history.specs.declared.data.Output.TheVariants.{Sent, Reply as Replied}
 use Rattle.overlap_law.specs.ClientEvents.{named, begin_event, reply_event, reply_events, seen_of, seen_in}
 use Rattle.overlap_law.specs.Headline.{before, IsBegunAt, IsToldAt}
-use Rattle.overlap_law.proofs.SameLemmas.{same_lane-same}
-use Rattle.overlap_law.proofs.SeenLemmas.{stands_split, IsBehind, stands_at, IsReply, reply_seen, reply_begins}
+use Rattle.overlap_law.proofs.SameLemmas.{both_true, same_lane-same}
+use Rattle.overlap_law.proofs.SeenLemmas.{stands_split, IsReply, reply_seen, reply_begins}
 
 -- ---- numbers
 
@@ -261,9 +259,13 @@ write_first first past (Begin lane (WriteOf table token other) version) outputs 
     let newest : (length past + 1 == length past + 1) ≡ true = (unsigned_Decides (length past + 1) (length past + 1)).1 refl in
     let by : lane ≡ writer.lane = ap (λ (n : Named). n.lane) who in
     record {
-      number = length past + 1; table = table; token = token; key_is = cc;
+      number = length past + 1;
+      table = table;
+      token = token;
+      key_is = cc;
       begun = record {
-        entry = first; version = version;
+        entry = first;
+        version = version;
         stands = ap (λ b. if b then Some first else entry_at past (length past + 1)) newest;
         begins = ap (λ (x : Entry). x.event) is ∙ ap (λ l. Begin l (WriteOf table token other) version) by ∙ ap (λ c. Begin writer.lane (WriteOf table token c) version) what;
         next = ap (λ (n : Named). n.op) (sym who) ∙ ap (λ l. next_op past l) by ∙ ap (λ b. next_op b writer.lane) (sym (before_newest first past (length past + 1) newest));
@@ -278,8 +280,58 @@ write_entry (first ∷ past) place writer key cell e =
           let was : IsWriteEntry past writer key cell = write_entry past place writer key cell old in
           let more = inside_more first past was.number was.begun.entry was.begun.stands in
           record {
-            number = was.number; table = was.table; token = was.token; key_is = was.key_is;
+            number = was.number;
+            table = was.table;
+            token = was.token;
+            key_is = was.key_is;
             begun = record { entry = was.begun.entry; version = was.begun.version; stands = more.0; begins = was.begun.begins; next = was.begun.next ∙ ap (λ b. next_op b writer.lane) (sym more.1) };
           }
       | inr behind ↦ write_first first past first.event first.outputs behind.offset writer key cell refl behind.stands
     ]
+
+-- ---- a request, as the entry that began it
+
+pub record IsBeginEntry (past : List Entry) (lane : LaneId) (op : OpId) (operation : Operation) : Type 0 where
+  pub number : ℕ
+  pub begun : IsBegunAt past number lane op operation
+
+entry_now : (opening : Opening) (past : List Entry) (first : Entry) (lane : LaneId) (op : OpId) (request : Request) (event : Event) → first.event ≡ event → begins past event lane op ≡ true → started opening past event ≡ Some request → IsBeginEntry (first ∷ past) lane op request.operation
+entry_now opening past first lane op request (Take by at) is now e = cc
+entry_now opening past first lane op request (Timeout by number) is now e = cc
+entry_now opening past first lane op request (Serve host at) is now e = cc
+entry_now opening past first lane op request (Begin by operation version) is now e =
+    by_route (route_of opening past version operation) e
+  where
+    by_route : (route : Option Route) → request_on operation version route ≡ Some request → IsBeginEntry (first ∷ past) lane op request.operation
+    by_route None h = cc
+    by_route (Some route) h =
+        let both = both_true (same_lane by lane) (op.0 == begun past lane + 1) now in
+        let who : by ≡ lane = same_lane-same by lane both.0 in
+        let count : op.0 ≡ begun past lane + 1 = same_number op.0 (begun past lane + 1) both.1 in
+        let number_is : op ≡ next_op past lane = ap (λ n. let o : OpId = record { 0 = n } in o) count in
+        let what : record { operation = operation; version = version; targets = route.targets; need = route.need } ≡ request = cc in
+        let newest : (length past + 1 == length past + 1) ≡ true = (unsigned_Decides (length past + 1) (length past + 1)).1 refl in
+        record {
+          number = length past + 1;
+          begun = record {
+            entry = first;
+            version = version;
+            stands = ap (λ b. if b then Some first else entry_at past (length past + 1)) newest;
+            begins = is ∙ ap (λ l. Begin l operation version) who ∙ ap (λ (q : Request). Begin lane q.operation version) what;
+            next = number_is ∙ ap (λ b. next_op b lane) (sym (before_newest first past (length past + 1) newest));
+          };
+        }
+
+pub request_entry : (opening : Opening) (past : List Entry) (lane : LaneId) (op : OpId) (request : Request) → request_at opening past lane op ≡ Some request → IsBeginEntry past lane op request.operation
+request_entry opening [] lane op request e = cc
+request_entry opening (first ∷ past) lane op request e =
+    elim (begins past first.event lane op) as (λ b. begins past first.event lane op ≡ b → (if b then started opening past first.event else request_at opening past lane op) ≡ Some request → IsBeginEntry (first ∷ past) lane op request.operation) [
+      | true ↦ λ now h. entry_now opening past first lane op request first.event refl now h
+      | false ↦ λ now h.
+          let was : IsBeginEntry past lane op request.operation = request_entry opening past lane op request h in
+          let more = inside_more first past was.number was.begun.entry was.begun.stands in
+          record {
+            number = was.number;
+            begun = record { entry = was.begun.entry; version = was.begun.version; stands = more.0; begins = was.begun.begins; next = was.begun.next ∙ ap (λ b. next_op b lane) (sym more.1) };
+          }
+    ] refl e

@@ -1,6 +1,6 @@
 -- The good targets of a read: of a write of its key that was acknowledged before the read began, they have told
 -- no cell that is below, and hold none that is, as long as the read's version is the newest or the one before it.
-use Rattle.std.proofs.Common.{◌≡◌, ℕ, ◌+◌, ◌≤◌, ◌<◌, Bool, true, false, not, ◌&&◌, ◌||◌, List, [], ◌∷◌, ◌++◌, length, count_by, Option, Some, None, if◌then◌else◌, ◌⊎◌, inl, inr, refl, sym, ◌∙◌, ap, subst, nat_lt, arith}
+use Rattle.std.proofs.Common.{◌≡◌, ℕ, ◌+◌, ◌≤◌, ◌<◌, Bool, true, false, not, ◌&&◌, ◌||◌, List, ◌∷◌, count_by, Option, Some, None, if◌then◌else◌, inl, inr, refl, sym, ◌∙◌, ap, subst, nat_lt, arith}
 use Rattle.std.specs.List.{list_any, slice_get}
 use Rattle.std.proofs.lemmas.Option.{slice_get_within}
 use Rattle.base_ids.specs.declared.ids.HostId.{HostId}
@@ -15,34 +15,33 @@ use Rattle.cell_merge.specs.declared.cell.Cell.{Cell}
 use Rattle.cell_merge.specs.Cell.{is_not_below}
 use Rattle.stage_graph.specs.declared.kind.Kind.{Kind}
 use Rattle.register_model.specs.declared.data.ClientEvent.{ClientEvent}
-use Rattle.register_model.specs.declared.data.ClientEvent.TheVariants.{WriteBegun, WriteAcked, ReadBegun}
+use Rattle.register_model.specs.declared.data.ClientEvent.TheVariants.{WriteAcked, ReadBegun}
 use Rattle.register_model.specs.declared.data.Key.{Key}
 use Rattle.register_model.specs.declared.data.Request.{Request as Named}
 use Rattle.register_model.specs.Register.{begun_by, ended_by, Stands, EndsAt}
 use Rattle.quorum_ops.specs.declared.data.Reply.{Reply}
 use Rattle.quorum_ops.specs.declared.data.Said.{Said}
 use Rattle.quorum_ops.specs.declared.data.Said.TheVariants.{Written, Found, Stale}
-use Rattle.cluster_history.specs.Names.{key_of, read_key, same_lane, same_op}
-use Rattle.cluster_history.specs.History.{begun, next_op, message_at, fence_of, is_begin_of, is_event_of}
+use Rattle.cluster_history.specs.Names.{key_of, read_key}
+use Rattle.cluster_history.specs.History.{begun, next_op, fence_of, is_begin_of, is_event_of}
 use Rattle.cluster_history.specs.Held.{held}
 use Rattle.cluster_history.specs.Requests.{Request, begins, request_at, is_reply_to, replies_to, is_live}
-use Rattle.cluster_history.specs.Legal.{HasActor, broken, said_to, outputs_of, entry_of, IsLegalPast}
+use Rattle.cluster_history.specs.Legal.{broken, said_to, outputs_of, entry_of, IsLegalPast}
 use Rattle.cluster_history.specs.declared.data.Entry.{Entry}
 use Rattle.cluster_history.specs.declared.data.Event.{Event}
 use Rattle.cluster_history.specs.declared.data.Event.TheVariants.{Begin, Take, Timeout, Serve}
 use Rattle.cluster_history.specs.declared.data.Opening.{Opening}
 use Rattle.cluster_history.specs.declared.data.Operation.{Operation}
 use Rattle.cluster_history.specs.declared.data.Operation.TheVariants.{Write as WriteOf, Read as ReadOf}
-use Rattle.cluster_history.specs.declared.data.Output.{Output}
 use Rattle.cluster_history.specs.declared.data.Output.TheVariants.{Reply as Replied}
 use Rattle.overlap_law.specs.ClientEvents.{named, begin_event, reply_event, seen_of, seen_in}
-use Rattle.overlap_law.proofs.SameLemmas.{both_true, and_true, and_false, or_true, or_first, or_second, is_false, not_false, same_lane-refl, same_lane-same, same_op-refl}
+use Rattle.overlap_law.proofs.SameLemmas.{both_true, and_true, and_false, or_true, is_false, not_false, same_lane-refl, same_lane-same, same_op-refl}
 use Rattle.overlap_law.proofs.CountLemmas.{count_more, found_any}
-use Rattle.overlap_law.proofs.BegunLemmas.{live_begun, request_begun, live_before, request_at-kept, IsRouted, routed}
+use Rattle.overlap_law.proofs.BegunLemmas.{live_begun, request_begun, live_before, request_at-kept, routed}
 use Rattle.overlap_law.proofs.LegalLemmas.{legal_induction, timeout_live}
 use Rattle.overlap_law.proofs.SentLemmas.{IsAsked}
-use Rattle.overlap_law.proofs.SeenLemmas.{stands_split, IsBehind, IsBegun, IsTold, seen_cases, Replies, replies, IsTurnedAway, IsDecision, IsGivenUp, reply_begins, reply_ends, begin_begins, begin_ends}
-use Rattle.overlap_law.proofs.SaidLemmas.{is_answer_of, has_said, IsSaid, said_found, IsWriteSaid, IsReadSaid, says, holds, holds-later, is_current, current-before, IsKnown, said_known, read_asked, request-then, some_same}
+use Rattle.overlap_law.proofs.SeenLemmas.{stands_split, IsBegun, seen_cases, Replies, replies, reply_begins, reply_ends, begin_begins, begin_ends}
+use Rattle.overlap_law.proofs.SaidLemmas.{is_answer_of, has_said, IsSaid, said_found, says, holds, holds-later, is_current, current-before, IsKnown, said_known, read_asked, request-then, some_same}
 use Rattle.overlap_law.proofs.SettledLemmas.{is_settled, settled_known, current_now, cover, acked_settled}
 
 -- ---- what was seen was begun
@@ -58,28 +57,28 @@ begun-now : (past : List Entry) (entry : Entry) (lane : LaneId) → is_begin_of 
 begun-now past entry lane e = ap (λ b. if b then begun past lane + 1 else begun past lane) e
 
 -- what an event begins, by what is seen of it
-begun_name : (past : List Entry) (event : Event) (offset : ℕ) (seen : ClientEvent) (request : Named) → IsBegun past event offset seen → begun_by seen ≡ Some request → (lane : LaneId) × (event ≡ event) × (is_begin_of lane event ≡ true) × (request ≡ named lane (next_op past lane))
+begun_name : (past : List Entry) (event : Event) (offset : ℕ) (seen : ClientEvent) (request : Named) → IsBegun past event offset seen → begun_by seen ≡ Some request → (lane : LaneId) × (is_begin_of lane event ≡ true) × (request ≡ named lane (next_op past lane))
 begun_name past event offset seen request began e =
     let P : Event → Type 0 = λ v. is_begin_of began.lane v ≡ true in
     let there : Some request ≡ Some (named began.lane (next_op past began.lane)) = sym e ∙ ap begun_by began.is ∙ begin_begins (named began.lane (next_op past began.lane)) began.operation in
-    (began.lane, refl, subst P (sym began.event_is) (same_lane-refl began.lane), some_same request (named began.lane (next_op past began.lane)) there)
+    (began.lane, subst P (sym began.event_is) (same_lane-refl began.lane), some_same request (named began.lane (next_op past began.lane)) there)
 
 pub seen_begun : (opening : Opening) (past : List Entry) → IsLegalPast opening past → (place : ℕ) (seen : ClientEvent) (request : Named) → Stands (seen_in past) place seen → begun_by seen ≡ Some request → request.op.0 ≤ begun past request.lane
 seen_begun opening =
     legal_induction opening (λ past. (place : ℕ) (seen : ClientEvent) (request : Named) → Stands (seen_in past) place seen → begun_by seen ≡ Some request → request.op.0 ≤ begun past request.lane)
     (λ place seen request e b. cc)
     (λ past event legal actor fine before place seen request e b.
-        elim (stands_split (seen_in past) (seen_of past event (outputs_of opening past event)) place seen e) [
-          | inl old ↦ omega (arith, before place seen request old b, begun-later past (entry_of opening past event) request.lane)
-          | inr behind ↦
-              elim (seen_cases opening past event behind.offset seen behind.stands) [
-                | inl began ↦
-                    let name = begun_name past event behind.offset seen request began b in
-                    let P : Named → Type 0 = λ n. n.op.0 ≤ begun (entry_of opening past event ∷ past) n.lane in
-                    subst P (sym name.3) (omega (arith, begun-now past (entry_of opening past event) name.0 name.2))
-                | inr told ↦ let wrong : Some request ≡ None = sym b ∙ ap begun_by told.is ∙ reply_begins (named told.lane told.op) told.reply in cc
-              ]
-        ])
+    elim (stands_split (seen_in past) (seen_of past event (outputs_of opening past event)) place seen e) [
+      | inl old ↦ omega (arith, before place seen request old b, begun-later past (entry_of opening past event) request.lane)
+      | inr behind ↦
+          elim (seen_cases opening past event behind.offset seen behind.stands) [
+            | inl began ↦
+                let name = begun_name past event behind.offset seen request began b in
+                let P : Named → Type 0 = λ n. n.op.0 ≤ begun (entry_of opening past event ∷ past) n.lane in
+                subst P (sym name.2) (omega (arith, begun-now past (entry_of opening past event) name.0 name.1))
+            | inr told ↦ let wrong : Some request ≡ None = sym b ∙ ap begun_by told.is ∙ reply_begins (named told.lane told.op) told.reply in cc
+          ]
+    ])
 
 -- a reply is to a request that is live, or that the event begins
 pub replied_begun : (opening : Opening) (past : List Entry) (event : Event) (lane : LaneId) (op : OpId) (version : Version) (kind : Kind) (reply : Reply) → broken opening past event ≡ None → is_event_of lane event ≡ true → Replies opening past event op version kind reply → op.0 ≤ begun (entry_of opening past event ∷ past) lane
@@ -108,17 +107,17 @@ seen_ended opening =
     legal_induction opening (λ past. (place : ℕ) (request : Named) → EndsAt (seen_in past) place request → request.op.0 ≤ begun past request.lane)
     (λ place request ends. let wrong : None ≡ Some ends.event = ends.stands in cc)
     (λ past event legal actor fine before place request ends.
-        elim (stands_split (seen_in past) (seen_of past event (outputs_of opening past event)) place ends.event ends.stands) [
-          | inl old ↦ omega (arith, before place request (record { event = ends.event; stands = old; ends = ends.ends }), begun-later past (entry_of opening past event) request.lane)
-          | inr behind ↦
-              elim (seen_cases opening past event behind.offset ends.event behind.stands) [
-                | inl began ↦ let wrong : Some request ≡ None = sym ends.ends ∙ ap ended_by began.is ∙ begin_ends (named began.lane (next_op past began.lane)) began.operation in cc
-                | inr told ↦
-                    let P : Named → Type 0 = λ n. n.op.0 ≤ begun (entry_of opening past event ∷ past) n.lane in
-                    subst P (sym (ended_name told.lane told.op told.reply ends.event request told.is ends.ends))
-                    (replied_begun opening past event told.lane told.op told.version told.kind told.reply fine told.own (replies opening past event told.place told.op told.version told.kind told.reply told.stands))
-              ]
-        ])
+    elim (stands_split (seen_in past) (seen_of past event (outputs_of opening past event)) place ends.event ends.stands) [
+      | inl old ↦ omega (arith, before place request (record { event = ends.event; stands = old; ends = ends.ends }), begun-later past (entry_of opening past event) request.lane)
+      | inr behind ↦
+          elim (seen_cases opening past event behind.offset ends.event behind.stands) [
+            | inl began ↦ let wrong : Some request ≡ None = sym ends.ends ∙ ap ended_by began.is ∙ begin_ends (named began.lane (next_op past began.lane)) began.operation in cc
+            | inr told ↦
+                let P : Named → Type 0 = λ n. n.op.0 ≤ begun (entry_of opening past event ∷ past) n.lane in
+                subst P (sym (ended_name told.lane told.op told.reply ends.event request told.is ends.ends))
+                (replied_begun opening past event told.lane told.op told.version told.kind told.reply fine told.own (replies opening past event told.place told.op told.version told.kind told.reply told.stands))
+          ]
+    ])
 
 -- an entry that replies to a request ends it
 replies_now : (opening : Opening) (past : List Entry) (event : Event) (lane : LaneId) (op : OpId) (version : Version) (kind : Kind) (reply : Reply) (place : ℕ) → is_event_of lane event ≡ true → slice_get (outputs_of opening past event) place ≡ Some (Replied op version kind reply) → replies_to (entry_of opening past event) lane op ≡ true
@@ -136,21 +135,21 @@ live_unended opening =
     legal_induction opening (λ past. (place : ℕ) (lane : LaneId) (op : OpId) → is_live past lane op ≡ true → EndsAt (seen_in past) place (named lane op) → ⊥)
     (λ place lane op live ends. cc)
     (λ past event legal actor fine before place lane op live ends.
-        elim (stands_split (seen_in past) (seen_of past event (outputs_of opening past event)) place ends.event ends.stands) [
-          | inl old ↦
-              let was : EndsAt (seen_in past) place (named lane op) = record { event = ends.event; stands = old; ends = ends.ends } in
-              before place lane op (live_before past (entry_of opening past event) lane op (seen_ended opening past legal place (named lane op) was) live).0 was
-          | inr behind ↦
-              elim (seen_cases opening past event behind.offset ends.event behind.stands) [
-                | inl began ↦ let wrong : Some (named lane op) ≡ None = sym ends.ends ∙ ap ended_by began.is ∙ begin_ends (named began.lane (next_op past began.lane)) began.operation in cc
-                | inr told ↦
-                    let name : named lane op ≡ named told.lane told.op = ended_name told.lane told.op told.reply ends.event (named lane op) told.is ends.ends in
-                    let P : Named → Type 0 = λ n. is_live (entry_of opening past event ∷ past) n.lane n.op ≡ true in
-                    let still : is_live (entry_of opening past event ∷ past) told.lane told.op ≡ true = subst P name live in
-                    let gone : is_live (entry_of opening past event ∷ past) told.lane told.op ≡ false = not_live opening past event told.lane told.op (replies_now opening past event told.lane told.op told.version told.kind told.reply told.place told.own told.stands) in
-                    let wrong : true ≡ false = sym still ∙ gone in cc
-              ]
-        ])
+    elim (stands_split (seen_in past) (seen_of past event (outputs_of opening past event)) place ends.event ends.stands) [
+      | inl old ↦
+          let was : EndsAt (seen_in past) place (named lane op) = record { event = ends.event; stands = old; ends = ends.ends } in
+          before place lane op (live_before past (entry_of opening past event) lane op (seen_ended opening past legal place (named lane op) was) live).0 was
+      | inr behind ↦
+          elim (seen_cases opening past event behind.offset ends.event behind.stands) [
+            | inl began ↦ let wrong : Some (named lane op) ≡ None = sym ends.ends ∙ ap ended_by began.is ∙ begin_ends (named began.lane (next_op past began.lane)) began.operation in cc
+            | inr told ↦
+                let name : named lane op ≡ named told.lane told.op = ended_name told.lane told.op told.reply ends.event (named lane op) told.is ends.ends in
+                let P : Named → Type 0 = λ n. is_live (entry_of opening past event ∷ past) n.lane n.op ≡ true in
+                let still : is_live (entry_of opening past event ∷ past) told.lane told.op ≡ true = subst P name live in
+                let gone : is_live (entry_of opening past event ∷ past) told.lane told.op ≡ false = not_live opening past event told.lane told.op (replies_now opening past event told.lane told.op told.version told.kind told.reply told.place told.own told.stands) in
+                let wrong : true ≡ false = sym still ∙ gone in cc
+          ]
+    ])
 
 -- ---- good targets
 
@@ -213,10 +212,14 @@ module _ (opening : Opening) (past : List Entry) (event : Event) (legal : IsLega
       let same : wrote.targets ≡ request.targets = (routed opening past by number wrote then_is).targets ∙ sym (routed opening (entry_of opening past event ∷ past) lane op request started).targets in
       let P : List Replica → Type 0 = λ t. wrote.need ≤ count_by (holds past (key_of (WriteOf table token cell)) cell) t in
       let there : wrote.need ≤ count_by (holds past (key_of (ReadOf table token)) cell) request.targets = subst P same covered in
-      omega (arith, there, count_more (holds past (key_of (ReadOf table token)) cell) (is_good opening (entry_of opening past event ∷ past) lane op request.version (key_of (ReadOf table token)) cell)
-      (λ replica h. parts_good opening (entry_of opening past event ∷ past) lane op request.version (key_of (ReadOf table token)) cell replica (silent replica)
-      (λ current. holds-later past (entry_of opening past event) (key_of (ReadOf table token)) cell replica h))
-      request.targets)
+      omega (
+        arith,
+        there,
+        count_more (holds past (key_of (ReadOf table token)) cell) (is_good opening (entry_of opening past event ∷ past) lane op request.version (key_of (ReadOf table token)) cell)
+            (λ replica h. parts_good opening (entry_of opening past event ∷ past) lane op request.version (key_of (ReadOf table token)) cell replica (silent replica)
+            (λ current. holds-later past (entry_of opening past event) (key_of (ReadOf table token)) cell replica h))
+            request.targets,
+      )
     where
       silent : (replica : Replica) → (has_said past lane op replica (found_below cell) || list_any (is_answer_of lane op replica (found_below cell)) (outputs_of opening past event)) ≡ false
       silent replica =
@@ -265,31 +268,34 @@ good_set opening =
     legal_induction opening (GoodSet opening)
     (λ begin acked lane by op number request wrote table token cell live started is begins acks earlier done wrote_is. cc)
     (λ past event legal actor fine before begin acked lane by op number request wrote table token cell live started is begins acks earlier done wrote_is.
-        elim (stands_split (seen_in past) (seen_of past event (outputs_of opening past event)) begin (ReadBegun (named lane op) (key_of (ReadOf table token))) begins) [
-          | inl old ↦
-              let below : op.0 ≤ begun past lane = seen_begun opening past legal begin (ReadBegun (named lane op) (key_of (ReadOf table token))) (named lane op) old refl in
-              let started_then : request_at opening past lane op ≡ Some request = sym (request_at-kept opening past (entry_of opening past event) lane op below) ∙ started in
-              elim (stands_split (seen_in past) (seen_of past event (outputs_of opening past event)) acked (WriteAcked (named by number)) acks) [
-                | inr behind ↦ absurd (omega (arith, earlier, behind.place_is, slice_get_within (seen_in past) begin (ReadBegun (named lane op) (key_of (ReadOf table token))) old))
-                | inl acked_then ↦
-                    let settled : is_settled opening past by number ≡ true = acked_settled opening past legal acked by number acked_then in
-                    let done_then : request_at opening past by number ≡ Some wrote = request-then opening past (entry_of opening past event) by number wrote (settled_known opening past by number settled) done in
-                    omega (arith, before begin acked lane by op number request wrote table token cell (live_before past (entry_of opening past event) lane op below live).0 started_then is old acked_then earlier done_then wrote_is,
-                    count_more (is_good opening past lane op request.version (key_of (ReadOf table token)) cell) (is_good opening (entry_of opening past event ∷ past) lane op request.version (key_of (ReadOf table token)) cell)
-                    (λ replica good. stays_good opening past event legal fine lane op request table token cell replica started_then is good) request.targets)
-              ]
-          | inr now ↦
-              elim (seen_cases opening past event now.offset (ReadBegun (named lane op) (key_of (ReadOf table token))) now.stands) [
-                | inr told ↦ let wrong : Some (named lane op) ≡ None = ap begun_by told.is ∙ reply_begins (named told.lane told.op) told.reply in cc
-                | inl began ↦
-                    elim (stands_split (seen_in past) (seen_of past event (outputs_of opening past event)) acked (WriteAcked (named by number)) acks) [
-                      | inr behind ↦ absurd (omega (arith, earlier, behind.place_is, now.place_is, began.first))
-                      | inl acked_then ↦
-                          let name : named lane op ≡ named began.lane (next_op past began.lane) = read_of (named began.lane (next_op past began.lane)) (named lane op) (key_of (ReadOf table token)) began.operation began.is in
-                          let P : Named → Type 0 = λ n. begun past n.lane < n.op.0 in
-                          let above : begun past lane < op.0 = subst P (sym name) (omega arith) in
-                          begins_good opening past event legal fine begin acked lane by op number request wrote table token cell started acked_then done wrote_is above
-                          (λ host at serve. let wrong : Begin began.lane began.operation began.version ≡ Serve host at = sym began.event_is ∙ serve in cc)
-                    ]
-              ]
-        ])
+    elim (stands_split (seen_in past) (seen_of past event (outputs_of opening past event)) begin (ReadBegun (named lane op) (key_of (ReadOf table token))) begins) [
+      | inl old ↦
+          let below : op.0 ≤ begun past lane = seen_begun opening past legal begin (ReadBegun (named lane op) (key_of (ReadOf table token))) (named lane op) old refl in
+          let started_then : request_at opening past lane op ≡ Some request = sym (request_at-kept opening past (entry_of opening past event) lane op below) ∙ started in
+          elim (stands_split (seen_in past) (seen_of past event (outputs_of opening past event)) acked (WriteAcked (named by number)) acks) [
+            | inr behind ↦ absurd (omega (arith, earlier, behind.place_is, slice_get_within (seen_in past) begin (ReadBegun (named lane op) (key_of (ReadOf table token))) old))
+            | inl acked_then ↦
+                let settled : is_settled opening past by number ≡ true = acked_settled opening past legal acked by number acked_then in
+                let done_then : request_at opening past by number ≡ Some wrote = request-then opening past (entry_of opening past event) by number wrote (settled_known opening past by number settled) done in
+                omega (
+                  arith,
+                  before begin acked lane by op number request wrote table token cell (live_before past (entry_of opening past event) lane op below live).0 started_then is old acked_then earlier done_then wrote_is,
+                  count_more (is_good opening past lane op request.version (key_of (ReadOf table token)) cell) (is_good opening (entry_of opening past event ∷ past) lane op request.version (key_of (ReadOf table token)) cell)
+                      (λ replica good. stays_good opening past event legal fine lane op request table token cell replica started_then is good) request.targets,
+                )
+          ]
+      | inr now ↦
+          elim (seen_cases opening past event now.offset (ReadBegun (named lane op) (key_of (ReadOf table token))) now.stands) [
+            | inr told ↦ let wrong : Some (named lane op) ≡ None = ap begun_by told.is ∙ reply_begins (named told.lane told.op) told.reply in cc
+            | inl began ↦
+                elim (stands_split (seen_in past) (seen_of past event (outputs_of opening past event)) acked (WriteAcked (named by number)) acks) [
+                  | inr behind ↦ absurd (omega (arith, earlier, behind.place_is, now.place_is, began.first))
+                  | inl acked_then ↦
+                      let name : named lane op ≡ named began.lane (next_op past began.lane) = read_of (named began.lane (next_op past began.lane)) (named lane op) (key_of (ReadOf table token)) began.operation began.is in
+                      let P : Named → Type 0 = λ n. begun past n.lane < n.op.0 in
+                      let above : begun past lane < op.0 = subst P (sym name) (omega arith) in
+                      begins_good opening past event legal fine begin acked lane by op number request wrote table token cell started acked_then done wrote_is above
+                      (λ host at serve. let wrong : Begin began.lane began.operation began.version ≡ Serve host at = sym began.event_is ∙ serve in cc)
+                ]
+          ]
+    ])

@@ -1,8 +1,7 @@
 -- What every client may rely on, of each legal run.
-use Rattle.std.proofs.Common.{◌≡◌, ℕ, ◌+◌, ◌-◌, ◌≤◌, ◌<◌, Bool, true, false, not, ◌&&◌, List, [], ◌∷◌, length, reverse, Option, Some, None, if◌then◌else◌, ◌⊎◌, inl, inr, refl, sym, ◌∙◌, ap, subst, arith}
+use Rattle.std.proofs.Common.{◌≡◌, ℕ, ◌+◌, ◌≤◌, ◌<◌, Bool, true, false, List, [], ◌∷◌, length, reverse, Option, Some, None, if◌then◌else◌, inl, inr, refl, sym, ◌∙◌, ap, subst, arith}
 use Rattle.std.specs.List.{slice_get}
 use Rattle.std.proofs.lemmas.Option.{slice_get_within}
-use Rattle.base_ids.specs.declared.ids.HostId.{HostId}
 use Rattle.base_ids.specs.declared.ids.LaneId.{LaneId}
 use Rattle.base_ids.specs.declared.ids.MsgRef.{MsgRef}
 use Rattle.base_ids.specs.declared.ids.OpId.{OpId}
@@ -14,8 +13,7 @@ use Rattle.cell_merge.specs.declared.cell.Cell.{Cell}
 use Rattle.cell_merge.specs.Cell.{IsNotBelow}
 use Rattle.stage_graph.specs.declared.kind.Kind.{Kind}
 use Rattle.stage_graph.specs.declared.kind.Kind.TheVariants.{Read as ReadKind, Write as WriteKind}
-use Rattle.register_model.specs.declared.data.ClientEvent.{ClientEvent}
-use Rattle.register_model.specs.declared.data.ClientEvent.TheVariants.{WriteBegun, WriteAcked, ReadBegun, ReadOk}
+use Rattle.register_model.specs.declared.data.ClientEvent.TheVariants.{WriteAcked, ReadOk}
 use Rattle.register_model.specs.declared.data.Key.{Key}
 use Rattle.register_model.specs.declared.data.Request.{Request as Named}
 use Rattle.register_model.specs.Register.{Stands, IsRegisterRun}
@@ -23,36 +21,33 @@ use Rattle.quorum_ops.specs.Decision.{first_said, answered_count, refused_count,
 use Rattle.quorum_ops.specs.declared.data.Answer.{Answer}
 use Rattle.quorum_ops.specs.declared.data.Reply.{Reply}
 use Rattle.quorum_ops.specs.declared.data.Reply.TheVariants.{Ok, Read, Stale, Timeout as TimedOut, NoTable}
-use Rattle.quorum_ops.specs.declared.data.Said.{Said}
 use Rattle.quorum_ops.specs.declared.data.Said.TheVariants.{Stale as Refused}
 use Rattle.cluster_history.specs.Names.{key_of, kind_of, same_lane, same_op}
-use Rattle.cluster_history.specs.History.{entry_at, message_at, is_event_of, next_op, fence_of}
-use Rattle.cluster_history.specs.Openings.{IsValidOpening}
-use Rattle.cluster_history.specs.Requests.{Request, request_at, is_live, answer_to, taken, with_taken, answers_of}
-use Rattle.cluster_history.specs.Legal.{broken, outputs_of, IsNext, IsLegalPast, IsLegalRun}
+use Rattle.cluster_history.specs.History.{message_at, is_event_of, next_op, fence_of}
+use Rattle.cluster_history.specs.Requests.{Request, is_live, answer_to, taken, with_taken, answers_of}
+use Rattle.cluster_history.specs.Legal.{broken, IsLegalPast, IsLegalRun}
 use Rattle.cluster_history.specs.declared.data.Entry.{Entry}
 use Rattle.cluster_history.specs.declared.data.Event.{Event}
 use Rattle.cluster_history.specs.declared.data.Event.TheVariants.{Begin, Take, Timeout, Serve}
 use Rattle.cluster_history.specs.declared.data.Journal.{Journal}
-use Rattle.cluster_history.specs.declared.data.Message.{Message}
 use Rattle.cluster_history.specs.declared.data.Message.TheVariants.{Answer as AnswerSent}
 use Rattle.cluster_history.specs.declared.data.Opening.{Opening}
 use Rattle.cluster_history.specs.declared.data.Operation.{Operation}
 use Rattle.cluster_history.specs.declared.data.Operation.TheVariants.{Write as WriteOf, Read as ReadOf}
 use Rattle.cluster_history.specs.declared.data.Output.{Output}
 use Rattle.cluster_history.specs.declared.data.Output.TheVariants.{Reply as Replied}
-use Rattle.overlap_law.specs.ClientEvents.{named, begin_event, seen_of, seen_in, client_events}
-use Rattle.overlap_law.specs.Headline.{before, IsBegunAt, IsToldAt, IsWrittenEarlier, IsReadBound, IsBelowFences, IsShort, StaleBelowFences, TimeoutShort, IsHeadline}
+use Rattle.overlap_law.specs.ClientEvents.{named, begin_event, seen_of, seen_in}
+use Rattle.overlap_law.specs.Headline.{before, IsBegunAt, IsToldAt, IsWrittenEarlier, IsReadEarlier, IsReadBound, IsBelowFences, IsShort, StaleBelowFences, TimeoutShort, IsHeadline}
 use Rattle.overlap_law.proofs.SameLemmas.{and_true, same_lane-refl, same_lane-same, same_op-refl}
 use Rattle.overlap_law.proofs.BegunLemmas.{request_at-later}
 use Rattle.overlap_law.proofs.LegalLemmas.{timeout_live, Decides, answer_addressed}
-use Rattle.overlap_law.proofs.SeenLemmas.{Replies, replies, IsTurnedAway, IsDecision, IsGivenUp, Began, request_seen}
+use Rattle.overlap_law.proofs.SeenLemmas.{Replies, replies, IsGivenUp, Began, request_seen}
 use Rattle.overlap_law.proofs.StoredLemmas.{IsWritten}
 use Rattle.overlap_law.proofs.SaidLemmas.{some_same}
-use Rattle.overlap_law.proofs.TakenLemmas.{AllTaken, IsSaidFirst, said_first, TellsFence, answer_fact, told_written}
-use Rattle.overlap_law.proofs.DecisionLemmas.{IsReadOf, operations, ByData, ByRefusal, decided, decides_taken}
+use Rattle.overlap_law.proofs.TakenLemmas.{IsSaidFirst, said_first, TellsFence, answer_fact, told_written}
+use Rattle.overlap_law.proofs.DecisionLemmas.{IsReadOf, decided, decides_taken}
 use Rattle.overlap_law.proofs.RefineLemmas.{run_of, begun_as, refine}
-use Rattle.overlap_law.proofs.EntryLemmas.{IsNextAt, next_at, number_within, before_length, IsInside, inside, seen_through, seen_at, seen_before, seen_prefix, begun_seen, IsSeenTold, told_seen, IsWriteEntry, write_entry}
+use Rattle.overlap_law.proofs.EntryLemmas.{IsNextAt, next_at, number_within, before_length, IsInside, inside, seen_at, seen_before, seen_prefix, begun_seen, IsSeenTold, told_seen, IsWriteEntry, write_entry, IsBeginEntry, request_entry}
 use Rattle.overlap_law.proofs.UndecidedLemmas.{undecided}
 
 -- ---- replies
@@ -211,8 +206,41 @@ written_take opening past lane at decides cell legal fine reply =
     ]
 
 pub read_bound : (opening : Opening) (past : List Entry) → IsLegalPast opening past → IsReadBound past
-read_bound opening past legal = record { written = written; not_below = not_below }
+read_bound opening past legal = record { begun = began; written = written; not_below = not_below }
   where
+    began : (number : ℕ) (lane : LaneId) (op : OpId) (cell : Option Cell) → IsToldAt past number lane op (Read cell) → IsReadEarlier past number lane op
+    began number lane op cell told =
+        let at : IsNextAt opening past number told.entry = next_at opening past legal number told.entry told.stands in
+        by_event told.entry.event told.own (replied opening past legal number lane op (Read cell) told)
+      where
+        by_event : (event : Event) → is_event_of lane event ≡ true → Replies opening (before past number) event op told.version told.kind (Read cell) → IsReadEarlier past number lane op
+        by_event (Begin by operation version) own reply = let wrong : Read cell ≡ NoTable = reply.reply_is in cc
+        by_event (Timeout by given) own reply = let wrong = reply.reply_is in cc
+        by_event (Serve host from) own reply = absurd reply
+        by_event (Take by from) own reply =
+            elim (decided (kind_of reply.decides.request.operation) reply.decides.request.targets reply.decides.request.need reply.decides.answer (answers_of (before past number) by reply.decides.answer.op) reply.decides.reply reply.decides.decided) [
+              | inr refusal ↦ let wrong = reply.reply_is ∙ refusal.reply_is in cc
+              | inl counted ↦
+                  let what = read_reply (kind_of reply.decides.request.operation) cell (greatest_told (reply.decides.answer ∷ answers_of (before past number) by reply.decides.answer.op) reply.decides.request.targets) (reply.reply_is ∙ counted.reply_is) in
+                  let read : IsReadOf reply.decides.request.operation = is_read reply.decides.request.operation what.0 in
+                  let first : IsBeginEntry (before past number) by reply.decides.answer.op reply.decides.request.operation = request_entry opening (before past number) by reply.decides.answer.op reply.decides.request reply.decides.begun in
+                  let there : IsInside past number first.number first.begun.entry = inside past number first.number first.begun.entry first.begun.stands in
+                  let who : by ≡ lane = same_lane-same by lane own in
+                  record {
+                    at = first.number;
+                    table = read.table;
+                    token = read.token;
+                    earlier = omega (arith, number_within (before past number) first.number first.begun.entry first.begun.stands, before_length past number told.entry told.stands);
+                    begins = record {
+                      entry = first.begun.entry;
+                      version = first.begun.version;
+                      stands = there.stands;
+                      begins = first.begun.begins ∙ ap (λ l. Begin l reply.decides.request.operation first.begun.version) who ∙ ap (λ o. Begin lane o first.begun.version) read.is;
+                      next = reply.op_is ∙ first.begun.next ∙ ap (λ b. next_op b by) (sym there.same) ∙ ap (λ l. next_op (before past first.number) l) who;
+                    };
+                  }
+            ]
+
     written : (begin number : ℕ) (lane : LaneId) (op : OpId) (table : TableId) (token : Token) (cell : Cell) → IsBegunAt past begin lane op (ReadOf table token) → IsToldAt past number lane op (Read (Some cell)) → IsWrittenEarlier past number table token cell
     written begin number lane op table token cell begun told =
         let at : IsNextAt opening past number told.entry = next_at opening past legal number told.entry told.stands in
@@ -227,10 +255,14 @@ read_bound opening past legal = record { written = written; not_below = not_belo
             let table_is : write.table ≡ table = ap (λ (k : Key). k.table) same in
             let token_is : write.token ≡ token = ap (λ (k : Key). k.token) same in
             record {
-              at = write.number; lane = seen.writer.lane; op = seen.writer.op;
+              at = write.number;
+              lane = seen.writer.lane;
+              op = seen.writer.op;
               earlier = omega (arith, number_within (before past number) write.number write.begun.entry write.begun.stands, before_length past number told.entry told.stands);
               begins = record {
-                entry = write.begun.entry; version = write.begun.version; stands = there.stands;
+                entry = write.begun.entry;
+                version = write.begun.version;
+                stands = there.stands;
                 begins = write.begun.begins ∙ ap (λ t. Begin seen.writer.lane (WriteOf t write.token cell) write.begun.version) table_is ∙ ap (λ k. Begin seen.writer.lane (WriteOf table k cell) write.begun.version) token_is;
                 next = write.begun.next ∙ ap (λ b. next_op b seen.writer.lane) (sym there.same);
               };

@@ -1,5 +1,5 @@
 -- Induction over legal histories, and what each event of one sends and replies.
-use Rattle.std.proofs.Common.{◌≡◌, ℕ, zero, suc, ◌+◌, ◌==◌, Bool, true, false, cond, List, [], ◌∷◌, length, map, Option, Some, None, if◌then◌else◌, ◌⊎◌, inl, inr, refl, sym, ◌∙◌, ap, subst}
+use Rattle.std.proofs.Common.{◌≡◌, ℕ, zero, suc, ◌+◌, ◌==◌, Bool, true, false, List, [], ◌∷◌, length, map, Option, Some, None, if◌then◌else◌, ◌⊎◌, inl, inr, refl, sym, ◌∙◌, ap, subst}
 use Rattle.std.specs.List.{slice_get}
 use Rattle.base_ids.specs.declared.ids.HostId.{HostId}
 use Rattle.base_ids.specs.declared.ids.LaneId.{LaneId}
@@ -7,19 +7,15 @@ use Rattle.base_ids.specs.declared.ids.MsgRef.{MsgRef}
 use Rattle.base_ids.specs.declared.ids.OpId.{OpId}
 use Rattle.base_ids.specs.declared.ids.Replica.{Replica}
 use Rattle.base_ids.specs.declared.ids.Version.{Version}
-use Rattle.base_ids.specs.declared.rules.EventRule.{EventRule}
-use Rattle.base_ids.specs.declared.rules.EventRule.TheVariants.{WrongMessage, NoRequest}
-use Rattle.cell_merge.specs.declared.cell.Cell.{Cell}
-use Rattle.register_model.specs.declared.data.Key.{Key}
+use Rattle.base_ids.specs.declared.rules.EventRule.TheVariants.{WrongMessage}
 use Rattle.quorum_ops.specs.Decision.{decision, timeout_reply}
 use Rattle.quorum_ops.specs.declared.data.Answer.{Answer}
 use Rattle.quorum_ops.specs.declared.data.ReadAsk.{ReadAsk}
 use Rattle.quorum_ops.specs.declared.data.WriteAsk.{WriteAsk}
 use Rattle.quorum_ops.specs.declared.data.Reply.{Reply}
 use Rattle.quorum_ops.specs.declared.data.Reply.TheVariants.{NoTable}
-use Rattle.quorum_ops.specs.declared.data.Said.{Said}
-use Rattle.quorum_ops.specs.declared.data.Said.TheVariants.{Written, Found, Stale}
-use Rattle.cluster_history.specs.Names.{kind_of, read_key, same_host, is_ask_to, is_answer_to}
+use Rattle.quorum_ops.specs.declared.data.Said.TheVariants.{Written, Found}
+use Rattle.cluster_history.specs.Names.{kind_of, read_key, is_ask_to, is_answer_to}
 use Rattle.cluster_history.specs.History.{next_op, entry_at, output_of, output_at, message_of, message_at, fence_of}
 use Rattle.cluster_history.specs.Held.{held}
 use Rattle.cluster_history.specs.Requests.{Route, Request, route_of, request_at, is_live, answers_of}

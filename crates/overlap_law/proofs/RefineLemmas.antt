@@ -1,9 +1,8 @@
 -- What clients see of a legal run is a run of the register machine.
-use Rattle.std.proofs.Common.{◌≡◌, ℕ, zero, suc, ◌+◌, ◌≤◌, ◌<◌, ◌/◌, Bool, true, false, not, List, [], ◌∷◌, ◌++◌, length, map, reverse, count_by, Option, Some, None, if◌then◌else◌, ◌⊎◌, inl, inr, refl, sym, ◌∙◌, ap, subst, append_assoc, arith}
+use Rattle.std.proofs.Common.{◌≡◌, ℕ, zero, suc, ◌+◌, ◌≤◌, ◌<◌, Bool, true, false, not, List, [], ◌∷◌, ◌++◌, length, map, reverse, count_by, Option, Some, None, ◌⊎◌, inl, inr, refl, sym, ◌∙◌, ap, subst, append_assoc, arith}
 use Rattle.std.specs.List.{slice_get}
-use Rattle.std.proofs.lemmas.List.{append-nil, length-append}
+use Rattle.std.proofs.lemmas.List.{append-nil}
 use Rattle.std.proofs.lemmas.Option.{slice_get_within}
-use Rattle.base_ids.specs.declared.ids.HostId.{HostId}
 use Rattle.base_ids.specs.declared.ids.LaneId.{LaneId}
 use Rattle.base_ids.specs.declared.ids.MsgRef.{MsgRef}
 use Rattle.base_ids.specs.declared.ids.OpId.{OpId}
@@ -13,24 +12,19 @@ use Rattle.base_ids.specs.declared.ids.Version.{Version}
 use Rattle.token_ring.specs.declared.token.Token.{Token}
 use Rattle.cell_merge.specs.declared.cell.Cell.{Cell}
 use Rattle.cell_merge.specs.Cell.{is_not_below, IsNotBelow}
-use Rattle.stage_graph.specs.declared.kind.Kind.{Kind}
-use Rattle.stage_graph.specs.declared.kind.Kind.TheVariants.{Read as ReadKind, Write as WriteKind}
 use Rattle.register_model.specs.declared.data.ClientEvent.{ClientEvent}
 use Rattle.register_model.specs.declared.data.ClientEvent.TheVariants.{WriteBegun, WriteAcked, ReadBegun, ReadOk, Ended}
 use Rattle.register_model.specs.declared.data.Key.{Key}
 use Rattle.register_model.specs.declared.data.Request.{Request as Named}
-use Rattle.register_model.specs.Register.{begun_by, ended_by, Stands, BeginsAt, EndsAt, WriteBeganBefore, ReadBeganBefore, WrittenBefore, HasBegun, IsRegisterRun}
+use Rattle.register_model.specs.Register.{begun_by, ended_by, Stands, BeginsAt, EndsAt, WriteBeganBefore, ReadBeganBefore, WrittenBefore, IsRegisterRun}
 use Rattle.register_model.proofs.RunLemmas.{MayCome, run-longer, run-empty}
-use Rattle.quorum_ops.specs.Decision.{first_said, said_cell, has_answered, answered_count, refused_count, greatest_told, good_reply, timeout_reply}
-use Rattle.quorum_ops.specs.declared.data.Answer.{Answer}
+use Rattle.quorum_ops.specs.Decision.{first_said, said_cell, has_answered, answered_count, greatest_told, good_reply}
 use Rattle.quorum_ops.specs.declared.data.Reply.{Reply}
-use Rattle.quorum_ops.specs.declared.data.Reply.TheVariants.{Ok, Read, Stale, Timeout as TimedOut, NoTable, NotMember}
 use Rattle.quorum_ops.specs.declared.data.Said.TheVariants.{Found}
-use Rattle.cluster_history.specs.Names.{key_of, kind_of, is_answer_to}
-use Rattle.cluster_history.specs.History.{begun, next_op, message_at, output_at}
-use Rattle.cluster_history.specs.Openings.{IsValidOpening}
+use Rattle.cluster_history.specs.Names.{key_of, kind_of}
+use Rattle.cluster_history.specs.History.{next_op, message_at}
 use Rattle.cluster_history.specs.Requests.{Route, Request, quorum, route_of, request_at, is_live, answers_of}
-use Rattle.cluster_history.specs.Legal.{HasActor, broken, sent_ask, begin_outputs, take_outputs, timeout_outputs, outputs_of, entry_of, IsLegalPast, IsLegalRun}
+use Rattle.cluster_history.specs.Legal.{HasActor, broken, sent_ask, begin_outputs, take_outputs, timeout_outputs, outputs_of, IsLegalPast, IsLegalRun}
 use Rattle.cluster_history.specs.declared.data.Entry.{Entry}
 use Rattle.cluster_history.specs.declared.data.Event.{Event}
 use Rattle.cluster_history.specs.declared.data.Event.TheVariants.{Begin, Take, Timeout, Serve}
@@ -40,14 +34,14 @@ use Rattle.cluster_history.specs.declared.data.Operation.{Operation}
 use Rattle.cluster_history.specs.declared.data.Operation.TheVariants.{Write as WriteOf, Read as ReadOf}
 use Rattle.cluster_history.specs.declared.data.Output.{Output}
 use Rattle.overlap_law.specs.ClientEvents.{named, begin_event, reply_event, reply_events, seen_of, seen_in, client_events}
-use Rattle.overlap_law.proofs.SameLemmas.{is_false, not_false}
-use Rattle.overlap_law.proofs.BegunLemmas.{live_begun, IsRouted, routed}
+use Rattle.overlap_law.proofs.SameLemmas.{is_false}
+use Rattle.overlap_law.proofs.BegunLemmas.{IsRouted, routed}
 use Rattle.overlap_law.proofs.LegalLemmas.{legal_induction, timeout_live, Decides, takes}
-use Rattle.overlap_law.proofs.SeenLemmas.{stands_split, stands_at, IsBehind, Began, request_seen, begin_begins, begin_ends}
+use Rattle.overlap_law.proofs.SeenLemmas.{stands_split, stands_at, Began, request_seen, begin_begins, begin_ends}
 use Rattle.overlap_law.proofs.StoredLemmas.{IsWritten}
 use Rattle.overlap_law.proofs.SaidLemmas.{has_said, sent_said, IsKnown, some_same}
-use Rattle.overlap_law.proofs.TakenLemmas.{AllTaken, ToldCell, read_answered, told_written}
-use Rattle.overlap_law.proofs.DecisionLemmas.{IsWriteOf, IsReadOf, operations, ByData, ByRefusal, decided, decides_taken, told_bound}
+use Rattle.overlap_law.proofs.TakenLemmas.{ToldCell, read_answered, told_written}
+use Rattle.overlap_law.proofs.DecisionLemmas.{operations, decided, decides_taken, told_bound}
 use Rattle.overlap_law.proofs.SettledLemmas.{settled_known, acked_settled}
 use Rattle.overlap_law.proofs.GoodLemmas.{seen_begun, seen_ended, live_unended, found_below, is_good, good_parts, good_set}
 
@@ -133,21 +127,6 @@ not_found_below cell found e = not_twice (is_not_below found (Some cell)) e
 -- ---- a read that returns
 
 module _ (opening : Opening) (past : List Entry) (legal : IsLegalPast opening past) (run : IsRegisterRun (seen_in past)) (lane : LaneId) (at : MsgRef) (fine : broken opening past (Take lane at) ≡ None) (decides : Decides opening past lane (message_at past at)) where
-  name : Named
-  name = named lane decides.answer.op
-
-  answers : List Answer
-  answers = decides.answer ∷ answers_of past lane decides.answer.op
-
-  all_taken : AllTaken past lane decides.answer.op (decides.answer ∷ answers_of past lane decides.answer.op)
-  all_taken = decides_taken opening past lane at fine decides
-
-  began_as : Began (seen_in past) (named lane decides.answer.op) decides.request.operation
-  began_as = request_seen opening past lane decides.answer.op decides.request decides.begun
-
-  still_open : (i : ℕ) → EndsAt (seen_in past) i (named lane decides.answer.op) → ⊥
-  still_open i ends = live_unended opening past legal i lane decides.answer.op decides.live ends
-
   -- the read bound: what the read returns is not below a write acknowledged before it began
   read_bound : (table : TableId) (token : Token) (cell : Cell) (wrote acked begin : ℕ) (writer : Named) → decides.request.operation ≡ ReadOf table token → decides.request.need ≤ answered_count (decides.answer ∷ answers_of past lane decides.answer.op) decides.request.targets → Stands (seen_in past) wrote (WriteBegun writer (key_of (ReadOf table token)) cell) → Stands (seen_in past) acked (WriteAcked writer) → acked < begin → Stands (seen_in past) begin (ReadBegun (named lane decides.answer.op) (key_of (ReadOf table token))) → IsNotBelow (greatest_told (decides.answer ∷ answers_of past lane decides.answer.op) decides.request.targets) (Some cell)
   read_bound table token cell wrote acked begin writer is enough writes acks before begins =
@@ -268,10 +247,6 @@ no_replies lane op version operation (target ∷ targets) = no_replies lane op v
 run_begin : (opening : Opening) (past : List Entry) → IsLegalPast opening past → IsRegisterRun (seen_in past) → (lane : LaneId) (operation : Operation) (version : Version) (route : Option Route) → IsRegisterRun (seen_in past ++ begin_event (named lane (next_op past lane)) operation ∷ reply_events lane (begin_outputs lane (next_op past lane) version operation route))
 run_begin opening past legal run lane operation version route = by_route route
   where
-    may : MayCome (seen_in past) (begin_event (named lane (next_op past lane)) operation)
-    may = may_begin (seen_in past) (named lane (next_op past lane)) operation
-        (λ i begins. absurd (omega (arith, seen_begun opening past legal i begins.event (named lane (next_op past lane)) begins.stands begins.begins)))
-
     begun_run : IsRegisterRun (seen_in past ++ begin_event (named lane (next_op past lane)) operation ∷ [])
     begun_run = run-longer (seen_in past) (begin_event (named lane (next_op past lane)) operation) run
         (may_begin (seen_in past) (named lane (next_op past lane)) operation

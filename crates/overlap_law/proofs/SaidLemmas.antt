@@ -1,7 +1,6 @@
 -- What replicas said: of a write, that they hold its cell; of a read, what they held.
-use Rattle.std.proofs.Common.{◌≡◌, ℕ, ◌+◌, ◌≤◌, ◌<◌, Bool, true, false, ◌&&◌, ◌||◌, not, List, [], ◌∷◌, Option, Some, None, if◌then◌else◌, ◌⊎◌, inl, inr, refl, sym, ◌∙◌, ap, subst, nat_lt, nat_le, arith}
+use Rattle.std.proofs.Common.{◌≡◌, ℕ, ◌+◌, Bool, true, false, ◌&&◌, ◌||◌, List, [], ◌∷◌, Option, Some, None, if◌then◌else◌, ◌⊎◌, inl, inr, refl, sym, ◌∙◌, ap, subst, nat_lt, nat_le}
 use Rattle.std.specs.List.{slice_get, list_any}
-use Rattle.std.proofs.lemmas.Bool.Decides.{nat_tests}
 use Rattle.base_ids.specs.declared.ids.HostId.{HostId}
 use Rattle.base_ids.specs.declared.ids.LaneId.{LaneId}
 use Rattle.base_ids.specs.declared.ids.MsgRef.{MsgRef}
@@ -11,7 +10,7 @@ use Rattle.base_ids.specs.declared.ids.TableId.{TableId}
 use Rattle.base_ids.specs.declared.ids.Version.{Version}
 use Rattle.token_ring.specs.declared.token.Token.{Token}
 use Rattle.cell_merge.specs.declared.cell.Cell.{Cell}
-use Rattle.cell_merge.specs.Cell.{is_not_below, IsNotBelow}
+use Rattle.cell_merge.specs.Cell.{is_not_below}
 use Rattle.cell_merge.proofs.CellOrder.{not_below}
 use Rattle.register_model.specs.declared.data.Key.{Key}
 use Rattle.quorum_tally.specs.Replicas.{same_replica}
@@ -28,17 +27,16 @@ use Rattle.cluster_history.specs.Legal.{HasActor, broken, ask_of, said_to, outpu
 use Rattle.cluster_history.specs.declared.data.Entry.{Entry}
 use Rattle.cluster_history.specs.declared.data.Event.{Event}
 use Rattle.cluster_history.specs.declared.data.Event.TheVariants.{Begin, Take, Timeout, Serve}
-use Rattle.cluster_history.specs.declared.data.Message.{Message}
 use Rattle.cluster_history.specs.declared.data.Message.TheVariants.{Write as WriteSent, Read as ReadSent, Answer as AnswerSent}
 use Rattle.cluster_history.specs.declared.data.Opening.{Opening}
 use Rattle.cluster_history.specs.declared.data.Operation.{Operation}
 use Rattle.cluster_history.specs.declared.data.Operation.TheVariants.{Write as WriteOf, Read as ReadOf}
 use Rattle.cluster_history.specs.declared.data.Output.{Output}
 use Rattle.cluster_history.specs.declared.data.Output.TheVariants.{Sent, Reply as Replied}
-use Rattle.overlap_law.proofs.SameLemmas.{both_true, and_true, or_true, or_first, or_second, is_false, not_false, same_lane-refl, same_lane-same, same_op-refl, same_op-same, same_replica-refl, same_replica-same}
+use Rattle.overlap_law.proofs.SameLemmas.{both_true, and_true, or_first, or_second, same_lane-refl, same_lane-same, same_op-refl, same_op-same, same_replica-refl, same_replica-same}
 use Rattle.overlap_law.proofs.CountLemmas.{IsFound, any_found, found_any}
 use Rattle.overlap_law.proofs.BegunLemmas.{request_begun, request_at-later, request_at-kept}
-use Rattle.overlap_law.proofs.LegalLemmas.{legal_induction, sent_split, IsAskBy, IsWriteServed, IsReadServed, Sends, sends, write_addressed, read_addressed}
+use Rattle.overlap_law.proofs.LegalLemmas.{legal_induction, sent_split, Sends, sends, write_addressed, read_addressed}
 use Rattle.overlap_law.proofs.SentLemmas.{IsAsked, ask_fact}
 use Rattle.overlap_law.proofs.StoredLemmas.{held-later, held-served}
 
@@ -142,7 +140,11 @@ says opening past event out lane op from said fine e =
           | inl write ↦
               let same = answer_same (record { lane = lane; op = op; from = from; said = said }) (record { lane = write.ask.lane; op = write.ask.op; from = write.ask.to; said = said_to write.ask.version (fence_of opening past host) Written }) write.is in
               inl (record {
-                host = host; at = at; event_is = refl; ask = write.ask; asked = write.asked;
+                host = host;
+                at = at;
+                event_is = refl;
+                ask = write.ask;
+                asked = write.asked;
                 addressed = write_addressed opening past host at write.ask fine write.asked;
                 lane_is = ap (λ (a : Answer). a.lane) (sym same);
                 op_is = ap (λ (a : Answer). a.op) (sym same);
@@ -152,7 +154,11 @@ says opening past event out lane op from said fine e =
           | inr read ↦
               let same = answer_same (record { lane = lane; op = op; from = from; said = said }) (record { lane = read.ask.lane; op = read.ask.op; from = read.ask.to; said = said_to read.ask.version (fence_of opening past host) (Found (held past host (read_key read.ask))) }) read.is in
               inr (record {
-                host = host; at = at; event_is = refl; ask = read.ask; asked = read.asked;
+                host = host;
+                at = at;
+                event_is = refl;
+                ask = read.ask;
+                asked = read.asked;
                 addressed = read_addressed opening past host at read.ask fine read.asked;
                 lane_is = ap (λ (a : Answer). a.lane) (sym same);
                 op_is = ap (λ (a : Answer). a.op) (sym same);
@@ -224,21 +230,21 @@ said_known opening =
     legal_induction opening (λ past. (lane : LaneId) (op : OpId) (from : Replica) (test : Said → Bool) → has_said past lane op from test ≡ true → IsKnown opening past lane op)
     (λ lane op from test said. cc)
     (λ past event legal actor fine before lane op from test said.
-        elim (has_said past lane op from test) as (λ b. has_said past lane op from test ≡ b → (b || list_any (is_answer_of lane op from test) (outputs_of opening past event)) ≡ true → IsKnown opening (entry_of opening past event ∷ past) lane op) [
-          | true ↦ λ old h.
-              let known : IsKnown opening past lane op = before lane op from test old in
-              record { request = known.request; begun = request_at-later opening past (entry_of opening past event) lane op known.request known.begun }
-          | false ↦ λ old h.
-              let found : IsSaid (outputs_of opening past event) lane op from test = said_found (outputs_of opening past event) lane op from test h in
-              elim (says opening past event found.place lane op from found.said fine found.stands) [
-                | inl write ↦
-                    let asked : IsAsked opening past lane op write.ask.version (WriteOf write.ask.table write.ask.token write.ask.cell) = write_asked opening past event lane op from found.said legal write in
-                    record { request = asked.request; begun = request_at-later opening past (entry_of opening past event) lane op asked.request asked.begun }
-                | inr read ↦
-                    let asked : IsAsked opening past lane op read.ask.version (ReadOf read.ask.table read.ask.token) = read_asked opening past event lane op from found.said legal read in
-                    record { request = asked.request; begun = request_at-later opening past (entry_of opening past event) lane op asked.request asked.begun }
-              ]
-        ] refl said)
+    elim (has_said past lane op from test) as (λ b. has_said past lane op from test ≡ b → (b || list_any (is_answer_of lane op from test) (outputs_of opening past event)) ≡ true → IsKnown opening (entry_of opening past event ∷ past) lane op) [
+      | true ↦ λ old h.
+          let known : IsKnown opening past lane op = before lane op from test old in
+          record { request = known.request; begun = request_at-later opening past (entry_of opening past event) lane op known.request known.begun }
+      | false ↦ λ old h.
+          let found : IsSaid (outputs_of opening past event) lane op from test = said_found (outputs_of opening past event) lane op from test h in
+          elim (says opening past event found.place lane op from found.said fine found.stands) [
+            | inl write ↦
+                let asked : IsAsked opening past lane op write.ask.version (WriteOf write.ask.table write.ask.token write.ask.cell) = write_asked opening past event lane op from found.said legal write in
+                record { request = asked.request; begun = request_at-later opening past (entry_of opening past event) lane op asked.request asked.begun }
+            | inr read ↦
+                let asked : IsAsked opening past lane op read.ask.version (ReadOf read.ask.table read.ask.token) = read_asked opening past event lane op from found.said legal read in
+                record { request = asked.request; begun = request_at-later opening past (entry_of opening past event) lane op asked.request asked.begun }
+          ]
+    ] refl said)
 
 pub some_same : {X : Type 0} (a b : X) → Some a ≡ Some b → a ≡ b
 some_same a b e = cc

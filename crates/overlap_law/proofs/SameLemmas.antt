@@ -1,5 +1,5 @@
 -- Names that pass the test are the same.
-use Rattle.std.proofs.Common.{◌≡◌, ℕ, ◌==◌, Bool, true, false, ◌&&◌, ◌||◌, not, refl, ap}
+use Rattle.std.proofs.Common.{◌≡◌, ◌==◌, Bool, true, false, ◌&&◌, ◌||◌, not, refl, ap}
 use Rattle.std.specs.Ordering.{int_cmp, is_eq}
 use Rattle.std.specs.Cmp.{unsigned_Decides, signed_Decides}
 use Rattle.base_ids.specs.declared.ids.HostId.{HostId}

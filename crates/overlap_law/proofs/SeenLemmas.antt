@@ -1,8 +1,7 @@
 -- What an event adds to what clients see.
-use Rattle.std.proofs.Common.{◌≡◌, ℕ, zero, suc, ◌+◌, ◌==◌, ◌<◌, ◌≤◌, Bool, true, false, List, [], ◌∷◌, ◌++◌, length, map, Option, Some, None, if◌then◌else◌, ◌⊎◌, inl, inr, refl, sym, ◌∙◌, ap, subst, arith}
+use Rattle.std.proofs.Common.{◌≡◌, ℕ, zero, suc, ◌+◌, ◌==◌, true, false, List, [], ◌∷◌, ◌++◌, length, map, Option, Some, None, if◌then◌else◌, ◌⊎◌, inl, inr, refl, sym, ◌∙◌, ap, subst, arith}
 use Rattle.std.specs.List.{slice_get}
 use Rattle.std.proofs.lemmas.Bool.{eqb-true}
-use Rattle.base_ids.specs.declared.ids.HostId.{HostId}
 use Rattle.base_ids.specs.declared.ids.LaneId.{LaneId}
 use Rattle.base_ids.specs.declared.ids.MsgRef.{MsgRef}
 use Rattle.base_ids.specs.declared.ids.OpId.{OpId}
@@ -10,20 +9,18 @@ use Rattle.base_ids.specs.declared.ids.Replica.{Replica}
 use Rattle.base_ids.specs.declared.ids.Version.{Version}
 use Rattle.stage_graph.specs.declared.kind.Kind.{Kind}
 use Rattle.quorum_ops.specs.Decision.{timeout_reply}
-use Rattle.quorum_ops.specs.declared.data.Answer.{Answer}
 use Rattle.quorum_ops.specs.declared.data.Reply.{Reply}
 use Rattle.quorum_ops.specs.declared.data.Reply.TheVariants.{Ok, Read, Stale, Timeout as TimedOut, NoTable, NotMember}
 use Rattle.register_model.specs.declared.data.ClientEvent.{ClientEvent}
-use Rattle.register_model.specs.declared.data.ClientEvent.TheVariants.{WriteBegun, WriteAcked, ReadBegun, ReadOk, Ended}
 use Rattle.register_model.specs.declared.data.Request.{Request as Named}
 use Rattle.register_model.specs.Register.{begun_by, ended_by, Stands}
 use Rattle.register_model.proofs.RunLemmas.{stands-more}
 use Rattle.cluster_history.specs.Names.{kind_of, same_lane, read_key}
 use Rattle.cluster_history.specs.Held.{held}
 use Rattle.quorum_ops.specs.declared.data.Said.TheVariants.{Written, Found}
-use Rattle.cluster_history.specs.History.{begun, next_op, message_at, is_begin_of, is_event_of, fence_of}
-use Rattle.cluster_history.specs.Requests.{Route, Request, started, begins, request_on, route_of, request_at, is_live, answers_of}
-use Rattle.cluster_history.specs.Legal.{sent_ask, begin_outputs, reply_list, take_outputs, timeout_outputs, said_to, answer_of, serve_outputs, outputs_of, entry_of}
+use Rattle.cluster_history.specs.History.{begun, next_op, message_at, is_event_of, fence_of}
+use Rattle.cluster_history.specs.Requests.{Route, Request, started, begins, request_on, route_of, request_at, answers_of}
+use Rattle.cluster_history.specs.Legal.{sent_ask, begin_outputs, timeout_outputs, said_to, answer_of, serve_outputs, outputs_of}
 use Rattle.cluster_history.specs.declared.data.Entry.{Entry}
 use Rattle.cluster_history.specs.declared.data.Event.{Event}
 use Rattle.cluster_history.specs.declared.data.Event.TheVariants.{Begin, Take, Timeout, Serve}

@@ -1,16 +1,12 @@
 -- Whatever was asked was begun so.
-use Rattle.std.proofs.Common.{◌≡◌, true, List, [], ◌∷◌, Option, Some, None, if◌then◌else◌, ◌⊎◌, inl, inr, refl, sym, ◌∙◌, ap, subst}
-use Rattle.base_ids.specs.declared.ids.HostId.{HostId}
+use Rattle.std.proofs.Common.{◌≡◌, List, ◌∷◌, Some, if◌then◌else◌, inl, inr, refl, sym, ◌∙◌, ap, subst}
 use Rattle.base_ids.specs.declared.ids.LaneId.{LaneId}
 use Rattle.base_ids.specs.declared.ids.MsgRef.{MsgRef}
 use Rattle.base_ids.specs.declared.ids.OpId.{OpId}
-use Rattle.base_ids.specs.declared.ids.Replica.{Replica}
 use Rattle.base_ids.specs.declared.ids.Version.{Version}
-use Rattle.quorum_ops.specs.declared.data.ReadAsk.{ReadAsk}
-use Rattle.quorum_ops.specs.declared.data.WriteAsk.{WriteAsk}
 use Rattle.cluster_history.specs.History.{next_op, message_at}
-use Rattle.cluster_history.specs.Requests.{Route, Request, started, begins, request_on, route_of, request_at}
-use Rattle.cluster_history.specs.Legal.{HasActor, broken, ask_of, outputs_of, entry_of, IsLegalPast}
+use Rattle.cluster_history.specs.Requests.{Route, Request, request_on, route_of, request_at}
+use Rattle.cluster_history.specs.Legal.{ask_of, entry_of, IsLegalPast}
 use Rattle.cluster_history.specs.declared.data.Entry.{Entry}
 use Rattle.cluster_history.specs.declared.data.Event.{Event}
 use Rattle.cluster_history.specs.declared.data.Event.TheVariants.{Begin, Take, Timeout, Serve}
@@ -21,7 +17,7 @@ use Rattle.cluster_history.specs.declared.data.Operation.{Operation}
 use Rattle.cluster_history.specs.declared.data.Operation.TheVariants.{Write as WriteOf, Read as ReadOf}
 use Rattle.overlap_law.proofs.SameLemmas.{same_lane-refl}
 use Rattle.overlap_law.proofs.BegunLemmas.{begins-next, request_at-later}
-use Rattle.overlap_law.proofs.LegalLemmas.{legal_induction, sent_split, IsAskBy, IsWriteServed, IsReadServed, Sends, sends}
+use Rattle.overlap_law.proofs.LegalLemmas.{legal_induction, sent_split, Sends, sends}
 
 -- the request was begun at this version with this operation
 pub record IsAsked (opening : Opening) (past : List Entry) (lane : LaneId) (op : OpId) (version : Version) (operation : Operation) : Type 0 where
@@ -93,7 +89,7 @@ ask_fact opening past legal at message sent = facts past legal at message sent
     facts = legal_induction opening (λ past. (at : MsgRef) (message : Message) → message_at past at ≡ Some message → AskFact opening past message)
         (λ at message e. cc)
         (λ past event legal actor fine before at message e.
-            elim (sent_split (entry_of opening past event) past at message e) [
-              | inl fresh ↦ fact-fresh opening past event message (sends opening past event at.out message fresh)
-              | inr old ↦ fact-later opening past (entry_of opening past event) message (before at message old)
-            ])
+        elim (sent_split (entry_of opening past event) past at message e) [
+          | inl fresh ↦ fact-fresh opening past event message (sends opening past event at.out message fresh)
+          | inr old ↦ fact-later opening past (entry_of opening past event) message (before at message old)
+        ])

@@ -1,6 +1,6 @@
 -- Settled writes: once as many replicas as needed have said to a live write that they wrote its cell, as many
 -- targets hold it from then on; and each write that is acknowledged is settled.
-use Rattle.std.proofs.Common.{◌≡◌, ℕ, ◌+◌, ◌≤◌, ◌<◌, Bool, true, false, ◌&&◌, ◌||◌, List, [], ◌∷◌, ◌++◌, count_by, Option, Some, None, ◌⊎◌, inl, inr, refl, sym, ◌∙◌, ap, subst, nat_le, arith}
+use Rattle.std.proofs.Common.{◌≡◌, ℕ, ◌+◌, ◌≤◌, Bool, true, false, ◌&&◌, ◌||◌, List, [], ◌∷◌, count_by, Option, Some, None, ◌⊎◌, inl, inr, refl, sym, ◌∙◌, ap, subst, nat_le, arith}
 use Rattle.std.proofs.lemmas.Bool.Decides.{nat_tests}
 use Rattle.base_ids.specs.declared.ids.LaneId.{LaneId}
 use Rattle.base_ids.specs.declared.ids.MsgRef.{MsgRef}
@@ -12,19 +12,17 @@ use Rattle.token_ring.specs.declared.token.Token.{Token}
 use Rattle.cell_merge.specs.declared.cell.Cell.{Cell}
 use Rattle.stage_graph.specs.declared.kind.Kind.{Kind}
 use Rattle.stage_graph.specs.declared.kind.Kind.TheVariants.{Read as ReadKind, Write as WriteKind}
-use Rattle.quorum_ops.specs.Decision.{has_answered, answered_count, greatest_told, good_reply}
-use Rattle.quorum_ops.specs.declared.data.Answer.{Answer}
+use Rattle.quorum_ops.specs.Decision.{has_answered, greatest_told, good_reply}
 use Rattle.quorum_ops.specs.declared.data.Reply.{Reply}
 use Rattle.quorum_ops.specs.declared.data.Reply.TheVariants.{Ok, Read, Stale, Timeout as TimedOut, NoTable, NotMember}
-use Rattle.register_model.specs.declared.data.ClientEvent.{ClientEvent}
 use Rattle.register_model.specs.declared.data.ClientEvent.TheVariants.{WriteAcked}
 use Rattle.register_model.specs.declared.data.Request.{Request as Named}
 use Rattle.register_model.specs.Register.{Stands}
-use Rattle.cluster_history.specs.Names.{key_of, kind_of, same_lane}
+use Rattle.cluster_history.specs.Names.{key_of, kind_of}
 use Rattle.cluster_history.specs.History.{next_op, message_at, is_event_of}
 use Rattle.cluster_history.specs.Held.{is_written}
 use Rattle.cluster_history.specs.Requests.{Request, request_at, is_live, answers_of}
-use Rattle.cluster_history.specs.Legal.{HasActor, broken, outputs_of, entry_of, IsNext, IsLegalPast}
+use Rattle.cluster_history.specs.Legal.{HasActor, broken, outputs_of, entry_of, IsLegalPast}
 use Rattle.cluster_history.specs.declared.data.Entry.{Entry}
 use Rattle.cluster_history.specs.declared.data.Event.{Event}
 use Rattle.cluster_history.specs.declared.data.Event.TheVariants.{Begin, Take, Timeout, Serve}
@@ -32,14 +30,14 @@ use Rattle.cluster_history.specs.declared.data.Opening.{Opening}
 use Rattle.cluster_history.specs.declared.data.Operation.{Operation}
 use Rattle.cluster_history.specs.declared.data.Operation.TheVariants.{Write as WriteOf, Read as ReadOf}
 use Rattle.overlap_law.specs.ClientEvents.{named, begin_event, reply_event, seen_of, seen_in}
-use Rattle.overlap_law.proofs.SameLemmas.{both_true, and_true, or_true, or_first, or_second, same_lane-same}
+use Rattle.overlap_law.proofs.SameLemmas.{both_true, and_true, or_first, or_second, same_lane-same}
 use Rattle.overlap_law.proofs.CountLemmas.{count_more}
 use Rattle.overlap_law.proofs.BegunLemmas.{request_at-later}
 use Rattle.overlap_law.proofs.LegalLemmas.{legal_induction, Decides}
-use Rattle.overlap_law.proofs.SeenLemmas.{stands_split, IsBehind, IsBegun, IsTold, seen_cases, Replies, replies, IsTurnedAway, IsDecision, IsGivenUp}
+use Rattle.overlap_law.proofs.SeenLemmas.{stands_split, seen_cases, Replies, replies}
 use Rattle.overlap_law.proofs.SaidLemmas.{has_said, holds, holds-later, is_current, IsKnown, request-then, said_kept, some_same}
-use Rattle.overlap_law.proofs.TakenLemmas.{AllTaken, write_answered}
-use Rattle.overlap_law.proofs.DecisionLemmas.{IsWriteOf, IsReadOf, operations, ByData, ByRefusal, decided, decides_taken}
+use Rattle.overlap_law.proofs.TakenLemmas.{write_answered}
+use Rattle.overlap_law.proofs.DecisionLemmas.{IsWriteOf, decided, decides_taken}
 
 -- ---- settled
 
@@ -124,19 +122,23 @@ cover opening =
     legal_induction opening (Cover opening)
     (λ lane op request table token cell settled begun is. cc)
     (λ past event legal actor fine before lane op request table token cell settled begun is.
-        elim (settled_cases opening past (entry_of opening past event) lane op settled) [
-          | inl old ↦
-              let then_is : request_at opening past lane op ≡ Some request = request-then opening past (entry_of opening past event) lane op request (settled_known opening past lane op old) begun in
-              let held_then : request.need ≤ count_by (holds past (key_of (WriteOf table token cell)) cell) request.targets = before lane op request table token cell old then_is is in
-              omega (arith, held_then, count_more (holds past (key_of (WriteOf table token cell)) cell) (holds (entry_of opening past event ∷ past) (key_of (WriteOf table token cell)) cell) (λ replica h. holds-later past (entry_of opening past event) (key_of (WriteOf table token cell)) cell replica h) request.targets)
-          | inr new ↦
-              let same : new.request ≡ request = some_same new.request request (sym new.begun ∙ begun) in
-              let P : Request → Type 0 = λ q. q.need ≤ written_count (entry_of opening past event ∷ past) lane op q.targets in
-              let enough : request.need ≤ written_count (entry_of opening past event ∷ past) lane op request.targets = subst P same new.enough in
-              omega (arith, enough, count_more (λ replica. has_said (entry_of opening past event ∷ past) lane op replica is_written) (holds (entry_of opening past event ∷ past) (key_of (WriteOf table token cell)) cell)
-              (λ replica h. said_kept opening (entry_of opening past event ∷ past) (legal_more opening past event legal actor fine) lane op replica request table token cell begun is (current_now opening (entry_of opening past event ∷ past) request.version) h)
-              request.targets)
-        ])
+    elim (settled_cases opening past (entry_of opening past event) lane op settled) [
+      | inl old ↦
+          let then_is : request_at opening past lane op ≡ Some request = request-then opening past (entry_of opening past event) lane op request (settled_known opening past lane op old) begun in
+          let held_then : request.need ≤ count_by (holds past (key_of (WriteOf table token cell)) cell) request.targets = before lane op request table token cell old then_is is in
+          omega (arith, held_then, count_more (holds past (key_of (WriteOf table token cell)) cell) (holds (entry_of opening past event ∷ past) (key_of (WriteOf table token cell)) cell) (λ replica h. holds-later past (entry_of opening past event) (key_of (WriteOf table token cell)) cell replica h) request.targets)
+      | inr new ↦
+          let same : new.request ≡ request = some_same new.request request (sym new.begun ∙ begun) in
+          let P : Request → Type 0 = λ q. q.need ≤ written_count (entry_of opening past event ∷ past) lane op q.targets in
+          let enough : request.need ≤ written_count (entry_of opening past event ∷ past) lane op request.targets = subst P same new.enough in
+          omega (
+            arith,
+            enough,
+            count_more (λ replica. has_said (entry_of opening past event ∷ past) lane op replica is_written) (holds (entry_of opening past event ∷ past) (key_of (WriteOf table token cell)) cell)
+                (λ replica h. said_kept opening (entry_of opening past event ∷ past) (legal_more opening past event legal actor fine) lane op replica request table token cell begun is (current_now opening (entry_of opening past event ∷ past) request.version) h)
+                request.targets,
+          )
+    ])
 
 -- ---- an acknowledged write is settled
 
@@ -167,9 +169,13 @@ settles opening past lane at legal fine decides ok =
       | inl told ↦
           let write : IsWriteOf decides.request.operation = is_write decides.request.operation (good_ok (kind_of decides.request.operation) (greatest_told (decides.answer ∷ answers_of past lane decides.answer.op) decides.request.targets) (sym told.reply_is ∙ ok)) in
           settled_now opening past lane decides.answer.op decides.request decides.live decides.begun
-          (omega (arith, told.enough, count_more (has_answered (decides.answer ∷ answers_of past lane decides.answer.op)) (λ replica. has_said past lane decides.answer.op replica is_written)
-          (write_answered opening past lane decides.answer.op (decides.answer ∷ answers_of past lane decides.answer.op) decides.request write.table write.token write.cell legal (decides_taken opening past lane at fine decides) decides.begun write.is)
-          decides.request.targets))
+          (omega (
+            arith,
+            told.enough,
+            count_more (has_answered (decides.answer ∷ answers_of past lane decides.answer.op)) (λ replica. has_said past lane decides.answer.op replica is_written)
+                (write_answered opening past lane decides.answer.op (decides.answer ∷ answers_of past lane decides.answer.op) decides.request write.table write.token write.cell legal (decides_taken opening past lane at fine decides) decides.begun write.is)
+                decides.request.targets,
+          ))
     ]
 
 pub acked_settled : (opening : Opening) (past : List Entry) → IsLegalPast opening past → (place : ℕ) (lane : LaneId) (op : OpId) → Stands (seen_in past) place (WriteAcked (named lane op)) → is_settled opening past lane op ≡ true
@@ -177,19 +183,19 @@ acked_settled opening =
     legal_induction opening (λ past. (place : ℕ) (lane : LaneId) (op : OpId) → Stands (seen_in past) place (WriteAcked (named lane op)) → is_settled opening past lane op ≡ true)
     (λ place lane op e. cc)
     (λ past event legal actor fine before place lane op e.
-        or_first (is_settled opening past lane op) (is_live (entry_of opening past event ∷ past) lane op && has_enough (entry_of opening past event ∷ past) lane op (request_at opening (entry_of opening past event ∷ past) lane op))
-        (elim (stands_split (seen_in past) (seen_of past event (outputs_of opening past event)) place (WriteAcked (named lane op)) e) [
-          | inl old ↦ before place lane op old
-          | inr behind ↦
-              elim (seen_cases opening past event behind.offset (WriteAcked (named lane op)) behind.stands) [
-                | inl began ↦ absurd (not_ack (named began.lane (next_op past began.lane)) (named lane op) began.operation began.is)
-                | inr told ↦
-                    let ack = ack_of (named told.lane told.op) (named lane op) told.reply told.is in
-                    let settled : is_settled opening past told.lane told.op ≡ true = by_event past event legal fine told.lane told.op told.version told.kind told.reply told.own (replies opening past event told.place told.op told.version told.kind told.reply told.stands) ack.0 in
-                    let P : Named → Type 0 = λ n. is_settled opening past n.lane n.op ≡ true in
-                    subst P ack.1 settled
-              ]
-        ]))
+    or_first (is_settled opening past lane op) (is_live (entry_of opening past event ∷ past) lane op && has_enough (entry_of opening past event ∷ past) lane op (request_at opening (entry_of opening past event ∷ past) lane op))
+    (elim (stands_split (seen_in past) (seen_of past event (outputs_of opening past event)) place (WriteAcked (named lane op)) e) [
+      | inl old ↦ before place lane op old
+      | inr behind ↦
+          elim (seen_cases opening past event behind.offset (WriteAcked (named lane op)) behind.stands) [
+            | inl began ↦ absurd (not_ack (named began.lane (next_op past began.lane)) (named lane op) began.operation began.is)
+            | inr told ↦
+                let ack = ack_of (named told.lane told.op) (named lane op) told.reply told.is in
+                let settled : is_settled opening past told.lane told.op ≡ true = by_event past event legal fine told.lane told.op told.version told.kind told.reply told.own (replies opening past event told.place told.op told.version told.kind told.reply told.stands) ack.0 in
+                let P : Named → Type 0 = λ n. is_settled opening past n.lane n.op ≡ true in
+                subst P ack.1 settled
+          ]
+    ]))
   where
     by_event : (past : List Entry) (event : Event) → IsLegalPast opening past → broken opening past event ≡ None → (lane : LaneId) (op : OpId) (version : Version) (kind : Kind) (reply : Reply) → is_event_of lane event ≡ true → Replies opening past event op version kind reply → reply ≡ Ok → is_settled opening past lane op ≡ true
     by_event past (Begin by operation begun_at) legal fine lane op version kind reply own told ok = let wrong : Ok ≡ NoTable = sym ok ∙ told.reply_is in cc

@@ -1,5 +1,5 @@
 -- What hosts hold: no cell is lost, and each that is held was begun to be written.
-use Rattle.std.proofs.Common.{◌≡◌, ℕ, Bool, true, false, ◌&&◌, List, [], ◌∷◌, ◌++◌, Option, Some, None, if◌then◌else◌, ◌⊎◌, inl, inr, refl, sym, ◌∙◌, ap, subst, nat_lt}
+use Rattle.std.proofs.Common.{◌≡◌, ℕ, true, false, ◌&&◌, List, ◌∷◌, Option, Some, None, if◌then◌else◌, inl, inr, refl, sym, ◌∙◌, ap, subst}
 use Rattle.base_ids.specs.declared.ids.HostId.{HostId}
 use Rattle.base_ids.specs.declared.ids.MsgRef.{MsgRef}
 use Rattle.base_ids.specs.declared.ids.Version.{Version}
@@ -17,7 +17,7 @@ use Rattle.quorum_ops.specs.declared.data.Said.TheVariants.{Written}
 use Rattle.cluster_history.specs.Names.{same_host, same_key, written_key}
 use Rattle.cluster_history.specs.History.{message_at, fence_of}
 use Rattle.cluster_history.specs.Held.{is_written, says_written, served_cell, stored_by, stored, held}
-use Rattle.cluster_history.specs.Legal.{HasActor, broken, said_to, serve_outputs, outputs_of, entry_of, IsLegalPast}
+use Rattle.cluster_history.specs.Legal.{said_to, serve_outputs, outputs_of, entry_of, IsLegalPast}
 use Rattle.cluster_history.specs.declared.data.Entry.{Entry}
 use Rattle.cluster_history.specs.declared.data.Event.{Event}
 use Rattle.cluster_history.specs.declared.data.Event.TheVariants.{Begin, Take, Timeout, Serve}
@@ -112,7 +112,7 @@ held_written opening =
     legal_induction opening (λ past. (host : HostId) (key : Key) (cell : Cell) → held past host key ≡ Some cell → IsWritten (seen_in past) key cell)
     (λ host key cell e. cc)
     (λ past event legal actor fine before host key cell e.
-        elim (greater-choice (held past host key) (stored past (entry_of opening past event) host key)) [
-          | inl old ↦ written-later past (entry_of opening past event) key cell (before host key cell (sym old ∙ e))
-          | inr new ↦ written-later past (entry_of opening past event) key cell (stored_written opening past key cell legal (stored_from past event (outputs_of opening past event) host key cell (sym new ∙ e)))
-        ])
+    elim (greater-choice (held past host key) (stored past (entry_of opening past event) host key)) [
+      | inl old ↦ written-later past (entry_of opening past event) key cell (before host key cell (sym old ∙ e))
+      | inr new ↦ written-later past (entry_of opening past event) key cell (stored_written opening past key cell legal (stored_from past event (outputs_of opening past event) host key cell (sym new ∙ e)))
+    ])

@@ -1,7 +1,6 @@
 -- The answers that a request took: each was sent to it, and what it tells.
-use Rattle.std.proofs.Common.{◌≡◌, ℕ, ◌+◌, ◌==◌, ◌≤◌, ◌<◌, Bool, true, false, not, ◌&&◌, List, [], ◌∷◌, length, Option, Some, None, is_some, if◌then◌else◌, ◌⊎◌, inl, inr, refl, sym, ◌∙◌, ap, subst, nat_lt, arith}
+use Rattle.std.proofs.Common.{◌≡◌, ℕ, ◌+◌, ◌==◌, ◌≤◌, ◌<◌, true, false, ◌&&◌, List, [], ◌∷◌, length, Option, Some, None, is_some, if◌then◌else◌, ◌⊎◌, inl, inr, refl, sym, ◌∙◌, ap, subst, nat_lt, arith}
 use Rattle.std.specs.Cmp.{unsigned_Decides}
-use Rattle.std.specs.List.{slice_get}
 use Rattle.std.proofs.lemmas.Bool.Decides.{nat_tests}
 use Rattle.base_ids.specs.declared.ids.HostId.{HostId}
 use Rattle.base_ids.specs.declared.ids.LaneId.{LaneId}
@@ -12,11 +11,10 @@ use Rattle.base_ids.specs.declared.ids.TableId.{TableId}
 use Rattle.base_ids.specs.declared.ids.Version.{Version}
 use Rattle.token_ring.specs.declared.token.Token.{Token}
 use Rattle.cell_merge.specs.declared.cell.Cell.{Cell}
-use Rattle.cell_merge.specs.Cell.{greater_cell, is_not_below, IsNotBelow}
 use Rattle.cell_merge.proofs.CellOrder.{greater-choice}
 use Rattle.register_model.specs.declared.data.Key.{Key}
 use Rattle.quorum_tally.specs.Replicas.{same_replica}
-use Rattle.quorum_ops.specs.Decision.{first_said, says_data, said_cell, has_answered, has_refused, greatest_told}
+use Rattle.quorum_ops.specs.Decision.{first_said, says_data, said_cell, has_answered, greatest_told}
 use Rattle.quorum_ops.specs.declared.data.Answer.{Answer}
 use Rattle.quorum_ops.specs.declared.data.Said.{Said}
 use Rattle.quorum_ops.specs.declared.data.Said.TheVariants.{Written, Found, Stale}
@@ -24,7 +22,7 @@ use Rattle.cluster_history.specs.Names.{key_of, same_lane, same_op, read_key}
 use Rattle.cluster_history.specs.History.{entry_at, output_of, message_of, message_at, fence_of}
 use Rattle.cluster_history.specs.Held.{is_written, held}
 use Rattle.cluster_history.specs.Requests.{Request, request_at, is_live, answer_to, taken, with_taken, answers_of}
-use Rattle.cluster_history.specs.Legal.{HasActor, broken, said_to, outputs_of, entry_of, IsLegalPast}
+use Rattle.cluster_history.specs.Legal.{entry_of, IsLegalPast}
 use Rattle.cluster_history.specs.declared.data.Entry.{Entry}
 use Rattle.cluster_history.specs.declared.data.Event.{Event}
 use Rattle.cluster_history.specs.declared.data.Event.TheVariants.{Begin, Take, Timeout, Serve}
@@ -33,7 +31,6 @@ use Rattle.cluster_history.specs.declared.data.Message.TheVariants.{Write as Wri
 use Rattle.cluster_history.specs.declared.data.Opening.{Opening}
 use Rattle.cluster_history.specs.declared.data.Operation.{Operation}
 use Rattle.cluster_history.specs.declared.data.Operation.TheVariants.{Write as WriteOf, Read as ReadOf}
-use Rattle.cluster_history.specs.declared.data.Output.{Output}
 use Rattle.overlap_law.specs.ClientEvents.{seen_in}
 use Rattle.overlap_law.proofs.SameLemmas.{both_true, same_lane-same, same_op-same, same_replica-same}
 use Rattle.overlap_law.proofs.BegunLemmas.{request_at-later}
@@ -81,9 +78,10 @@ AllTaken past lane op (answer ∷ answers) = IsTaken past lane op answer × AllT
 
 pub all_taken-later : (past : List Entry) (entry : Entry) (lane : LaneId) (op : OpId) (answers : List Answer) → AllTaken past lane op answers → AllTaken (entry ∷ past) lane op answers
 all_taken-later past entry lane op [] all = tt
-all_taken-later past entry lane op (answer ∷ answers) all =
-    (record { at = all.0.at; sent = message-later past entry all.0.at (AnswerSent answer) all.0.sent; lane_is = all.0.lane_is; op_is = all.0.op_is },
-    all_taken-later past entry lane op answers all.1)
+all_taken-later past entry lane op (answer ∷ answers) all = (
+  record { at = all.0.at; sent = message-later past entry all.0.at (AnswerSent answer) all.0.sent; lane_is = all.0.lane_is; op_is = all.0.op_is },
+  all_taken-later past entry lane op answers all.1,
+)
 
 pub taken_is : (past : List Entry) (event : Event) (lane : LaneId) (op : OpId) (answer : Answer) → taken past event lane op ≡ Some answer → IsTaken past lane op answer
 taken_is past (Begin by operation version) lane op answer e = cc
@@ -188,7 +186,11 @@ fact-later opening past entry lane op from Written fact =
     record { request = fact.request; begun = request_at-later opening past entry lane op fact.request fact.begun; table = fact.table; token = fact.token; cell = fact.cell; operation_is = fact.operation_is }
 fact-later opening past entry lane op from (Found found) fact =
     record {
-      request = fact.request; begun = request_at-later opening past entry lane op fact.request fact.begun; table = fact.table; token = fact.token; operation_is = fact.operation_is;
+      request = fact.request;
+      begun = request_at-later opening past entry lane op fact.request fact.begun;
+      table = fact.table;
+      token = fact.token;
+      operation_is = fact.operation_is;
       written = λ cell e. written-later past entry (key_of (ReadOf fact.table fact.token)) cell (fact.written cell e);
     }
 fact-later opening past entry lane op from (Stale fence) fact =
@@ -223,9 +225,13 @@ fact-fresh opening past event lane op from said legal new =
           (elim (nat_lt read.ask.version.0 (fence_of opening past read.host).0) as (λ b. nat_lt read.ask.version.0 (fence_of opening past read.host).0 ≡ b → AnswerFact opening past lane op from (if b then Stale (fence_of opening past read.host) else Found (held past read.host (read_key read.ask)))) [
             | true ↦ λ b. refused opening past lane op from read.ask.version (ReadOf read.ask.table read.ask.token) read.host asked (ap (λ (r : Replica). r.host) (sym read.from_is) ∙ read.addressed) b
             | false ↦ λ b. record {
-                request = asked.request; begun = asked.begun; table = read.ask.table; token = read.ask.token; operation_is = asked.operation_is;
-                written = λ cell e. held_written opening past legal read.host (read_key read.ask) cell e;
-              }
+              request = asked.request;
+              begun = asked.begun;
+              table = read.ask.table;
+              token = read.ask.token;
+              operation_is = asked.operation_is;
+              written = λ cell e. held_written opening past legal read.host (read_key read.ask) cell e;
+            }
           ] refl)
     ]
 
@@ -234,11 +240,11 @@ answer_fact opening =
     legal_induction opening (λ past. (at : MsgRef) (lane : LaneId) (op : OpId) (from : Replica) (said : Said) → message_at past at ≡ Some (AnswerSent (record { lane = lane; op = op; from = from; said = said })) → AnswerFact opening past lane op from said)
     (λ at lane op from said e. cc)
     (λ past event legal actor fine before at lane op from said e.
-        fact-later opening past (entry_of opening past event) lane op from said
-        (elim (sent_split (entry_of opening past event) past at (AnswerSent (record { lane = lane; op = op; from = from; said = said })) e) [
-          | inl fresh ↦ fact-fresh opening past event lane op from said legal (says opening past event at.out lane op from said fine fresh)
-          | inr old ↦ before at lane op from said old
-        ]))
+    fact-later opening past (entry_of opening past event) lane op from said
+    (elim (sent_split (entry_of opening past event) past at (AnswerSent (record { lane = lane; op = op; from = from; said = said })) e) [
+      | inl fresh ↦ fact-fresh opening past event lane op from said legal (says opening past event at.out lane op from said fine fresh)
+      | inr old ↦ before at lane op from said old
+    ]))
 
 -- ---- what counts
 

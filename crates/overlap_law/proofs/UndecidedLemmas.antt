@@ -1,9 +1,8 @@
 -- A live request is undecided: fewer targets than needed have answered.
-use Rattle.std.proofs.Common.{◌≡◌, ℕ, zero, suc, ◌+◌, ◌==◌, ◌≤◌, ◌<◌, ◌/◌, Bool, true, false, not, ◌&&◌, ◌||◌, List, [], ◌∷◌, length, count_by, Option, Some, None, is_some, if◌then◌else◌, ◌⊎◌, inl, inr, refl, sym, ◌∙◌, ap, subst, nat_le, nat_lt, arith}
-use Rattle.std.specs.List.{slice_get, list_any}
+use Rattle.std.proofs.Common.{◌≡◌, ℕ, ◌≤◌, ◌<◌, Bool, true, false, ◌&&◌, List, [], ◌∷◌, Option, Some, None, is_some, if◌then◌else◌, inl, inr, refl, sym, ◌∙◌, ap, subst, nat_le, arith}
+use Rattle.std.specs.List.{list_any}
 use Rattle.std.proofs.lemmas.Bool.{cases_lt}
 use Rattle.std.proofs.lemmas.Bool.Decides.{nat_tests}
-use Rattle.base_ids.specs.declared.ids.HostId.{HostId}
 use Rattle.base_ids.specs.declared.ids.LaneId.{LaneId}
 use Rattle.base_ids.specs.declared.ids.MsgRef.{MsgRef}
 use Rattle.base_ids.specs.declared.ids.OpId.{OpId}
@@ -18,15 +17,14 @@ use Rattle.quorum_ops.specs.declared.data.Said.{Said}
 use Rattle.quorum_ops.specs.declared.data.Said.TheVariants.{Written, Found, Stale as Refused}
 use Rattle.cluster_history.specs.Names.{kind_of, same_lane, same_op}
 use Rattle.cluster_history.specs.History.{begun, message_at, is_event_of}
-use Rattle.cluster_history.specs.Requests.{Request, quorum, request_at, is_reply_to, replies_to, is_live, answer_to, taken, with_taken, answers_of}
-use Rattle.cluster_history.specs.Legal.{HasActor, broken, reply_list, decided_by, take_outputs, outputs_of, entry_of, IsLegalPast}
+use Rattle.cluster_history.specs.Requests.{Request, request_at, is_reply_to, replies_to, is_live, answer_to, taken, with_taken, answers_of}
+use Rattle.cluster_history.specs.Legal.{reply_list, decided_by, take_outputs, outputs_of, entry_of, IsLegalPast}
 use Rattle.cluster_history.specs.declared.data.Entry.{Entry}
 use Rattle.cluster_history.specs.declared.data.Event.{Event}
 use Rattle.cluster_history.specs.declared.data.Event.TheVariants.{Begin, Take, Timeout, Serve}
 use Rattle.cluster_history.specs.declared.data.Message.{Message}
 use Rattle.cluster_history.specs.declared.data.Message.TheVariants.{Write as WriteSent, Read as ReadSent, Answer as AnswerSent}
 use Rattle.cluster_history.specs.declared.data.Opening.{Opening}
-use Rattle.cluster_history.specs.declared.data.Output.{Output}
 use Rattle.overlap_law.proofs.SameLemmas.{both_true, and_true, or_first, same_lane-refl, same_lane-same, same_op-refl, same_op-same}
 use Rattle.overlap_law.proofs.CountLemmas.{count_more}
 use Rattle.overlap_law.proofs.BegunLemmas.{is_live-above, answers_of-above, live_before, request_at-kept, IsRouted, routed}
@@ -91,10 +89,6 @@ refusal_counts answer fence answers targets e =
         by_first None true h = let wrong : false ≡ true = ap (λ s. says_data (Some s)) (sym e) ∙ h in cc
         by_first None false h = h
 
-pub record IsAnswered (answer : Answer) : Type 0 where
-  pub fence : Version
-  pub refused : answer.said ≡ Refused fence
-
 -- where the newest answer decides nothing, fewer than needed have answered
 undecided_counts : (kind : Kind) (targets : List Replica) (need : ℕ) (answer : Answer) (answers : List Answer) → decision kind targets need (answer ∷ answers) ≡ None → answered_count answers targets < need → answered_count (answer ∷ answers) targets < need
 undecided_counts kind targets need answer answers e few = by_said answer.said refl e
@@ -125,14 +119,6 @@ quiet_take : (opening : Opening) (past : List Entry) (event : Event) (lane : Lan
 quiet_take opening past event lane op request answer live started take silent =
     by_decision (decision (kind_of request.operation) request.targets request.need (answer ∷ answers_of past lane op)) refl
   where
-    outputs_are : outputs_of opening past event ≡ reply_list answer.op request (decision (kind_of request.operation) request.targets request.need (answer ∷ answers_of past lane op))
-    outputs_are =
-        ap (outputs_of opening past) take.event_is
-        ∙ ap (take_outputs opening past lane) take.sent
-        ∙ ap (λ o. if is_live past lane o then decided_by answer.op (answer ∷ answers_of past lane o) (request_at opening past lane o) else []) take.op_is
-        ∙ ap (λ b. if b then decided_by answer.op (answer ∷ answers_of past lane op) (request_at opening past lane op) else []) live
-        ∙ ap (decided_by answer.op (answer ∷ answers_of past lane op)) started
-
     by_decision : (reply : Option Reply) → decision (kind_of request.operation) request.targets request.need (answer ∷ answers_of past lane op) ≡ reply → reply ≡ None
     by_decision None d = refl
     by_decision (Some reply) d =
@@ -160,16 +146,16 @@ undecided opening =
     legal_induction opening (Undecided opening)
     (λ lane op request live started. cc)
     (λ past event legal actor fine before lane op request live started.
-        let P : Bool → Type 0 = λ b. answered_count (if b then with_taken (taken past event lane op) (answers_of past lane op) else answers_of past lane op) request.targets < request.need in
-        elim (cases_lt (begun past lane) op.0) [
-          | inr below ↦
-              let was = live_before past (entry_of opening past event) lane op below live in
-              let started_then : request_at opening past lane op ≡ Some request = sym (request_at-kept opening past (entry_of opening past event) lane op below) ∙ started in
-              subst P (sym was.0)
-              (undecided_take opening past event lane op request was.0 started_then was.1 (before lane op request was.0 started_then) (taken past event lane op) refl)
-          | inl above ↦
-              let route : IsRouted opening request = routed opening (entry_of opening past event ∷ past) lane op request started in
-              let Q : List Answer → Type 0 = λ a. answered_count a request.targets < request.need in
-              subst P (sym (is_live-above past lane op above))
-              (subst Q (sym (answers_of-above past lane op above)) (omega (arith, none_answered request.targets, route.need)))
-        ])
+    let P : Bool → Type 0 = λ b. answered_count (if b then with_taken (taken past event lane op) (answers_of past lane op) else answers_of past lane op) request.targets < request.need in
+    elim (cases_lt (begun past lane) op.0) [
+      | inr below ↦
+          let was = live_before past (entry_of opening past event) lane op below live in
+          let started_then : request_at opening past lane op ≡ Some request = sym (request_at-kept opening past (entry_of opening past event) lane op below) ∙ started in
+          subst P (sym was.0)
+          (undecided_take opening past event lane op request was.0 started_then was.1 (before lane op request was.0 started_then) (taken past event lane op) refl)
+      | inl above ↦
+          let route : IsRouted opening request = routed opening (entry_of opening past event ∷ past) lane op request started in
+          let Q : List Answer → Type 0 = λ a. answered_count a request.targets < request.need in
+          subst P (sym (is_live-above past lane op above))
+          (subst Q (sym (answers_of-above past lane op above)) (omega (arith, none_answered request.targets, route.need)))
+    ])

@@ -57,9 +57,18 @@ pub record IsWrittenEarlier (past : List Entry) (number : ℕ) (table : TableId)
   pub earlier : at < number
   pub begins : IsBegunAt past at lane op (WriteOf table token cell)
 
--- Each cell that a read returns was begun to be written, and no read returns less than a write of its key that was
+-- the request began at an earlier entry than this one, as a read
+pub record IsReadEarlier (past : List Entry) (number : ℕ) (lane : LaneId) (op : OpId) : Type 0 where
+  pub at : ℕ
+  pub table : TableId
+  pub token : Token
+  pub earlier : at < number
+  pub begins : IsBegunAt past at lane op (ReadOf table token)
+
+-- What is returned as a read began as one. Each cell that a read returns was begun to be written, and no read returns less than a write of its key that was
 -- acknowledged before the read began.
 pub record IsReadBound (past : List Entry) : Type 0 where
+  pub begun : (told : ℕ) (lane : LaneId) (op : OpId) (cell : Option Cell) → IsToldAt past told lane op (Read cell) → IsReadEarlier past told lane op
   pub written : (begin told : ℕ) (lane : LaneId) (op : OpId) (table : TableId) (token : Token) (cell : Cell) → IsBegunAt past begin lane op (ReadOf table token) → IsToldAt past told lane op (Read (Some cell)) → IsWrittenEarlier past told table token cell
   pub not_below : (wrote acked begin told : ℕ) (writer reader : LaneId) (write read : OpId) (table : TableId) (token : Token) (written : Cell) (cell : Option Cell) → IsBegunAt past wrote writer write (WriteOf table token written) → IsToldAt past acked writer write Ok → acked < begin → IsBegunAt past begin reader read (ReadOf table token) → IsToldAt past told reader read (Read cell) → IsNotBelow cell (Some written)
 

@@ -5,5 +5,10 @@
 mod laws;
 mod seen;
 
-pub use laws::{law_headline, law_read_bound, law_refine, law_stale_below_fences, law_timeout_short};
+pub use laws::{
+    law_headline, law_read_bound, law_refine, law_stale_below_fences, law_timeout_short,
+};
 pub use seen::client_events;
+
+#[cfg(test)]
+mod tests;

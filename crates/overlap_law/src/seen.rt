@@ -111,11 +111,7 @@ fn add(seen: &mut ClientEventList, event: ClientEvent) -> Result<(), NoMemory>
 }
 
 /// Adds what clients see of one output of a lane.
-fn add_output(
-    lane: LaneId,
-    output: &Output,
-    seen: &mut ClientEventList,
-) -> Result<(), NoMemory>
+fn add_output(lane: LaneId, output: &Output, seen: &mut ClientEventList) -> Result<(), NoMemory>
     ensures { OnOk result (seen.new ≡ seen.old ++ reply_events lane (output.now ∷ [])) }
 {
     match output {
@@ -127,11 +123,7 @@ fn add_output(
 }
 
 /// Adds what clients see of a lane's outputs.
-fn add_replies(
-    lane: LaneId,
-    outputs: &[Output],
-    seen: &mut ClientEventList,
-) -> Result<(), NoMemory>
+fn add_replies(lane: LaneId, outputs: &[Output], seen: &mut ClientEventList) -> Result<(), NoMemory>
     ensures { OnOk result (seen.new ≡ seen.old ++ reply_events lane outputs.now) }
 {
     for output in outputs {
@@ -156,18 +148,16 @@ fn add_begin(
 }
 
 /// Adds what clients see of an entry, and counts the request that it begins.
-fn add_entry(
-    entry: &Entry,
-    counts: &mut Counts,
-    seen: &mut ClientEventList,
-) -> Result<(), NoMemory>
+fn add_entry(entry: &Entry, counts: &mut Counts, seen: &mut ClientEventList) -> Result<(), NoMemory>
     requires { (lane : LaneId) → count_at counts.old lane + 1 < 2 ^ 64 }
     ensures events { OnOk result ((past : List Entry) → AreCounts past counts.old → seen.new ≡ seen.old ++ seen_of past entry.now.event entry.now.outputs) }
     ensures counted { OnOk result ((past : List Entry) → AreCounts past counts.old → AreCounts (entry.now ∷ past) counts.new) }
 {
     match &entry.event {
         Event::Begin {
-            lane, operation, ..
+            lane,
+            operation,
+            ..
         } => {
             add_begin(*lane, operation, counts, seen)?;
             add_replies(*lane, entry.outputs.as_slice(), seen)

@@ -1,5 +1,5 @@
 -- A run that goes on with one more event which may come next is a run.
-use Rattle.std.proofs.Common.{◌≡◌, ◌<◌, ◌≤◌, ◌⊎◌, inl, inr, ℕ, zero, suc, ◌+◌, Option, Some, None, List, [], ◌∷◌, ◌++◌, length, refl, sym, ◌∙◌, ap, subst, arith}
+use Rattle.std.proofs.Common.{◌≡◌, ◌<◌, ◌⊎◌, inl, inr, ℕ, zero, suc, Option, Some, None, List, [], ◌∷◌, ◌++◌, length, refl, sym, ◌∙◌, ap, subst, arith}
 use Rattle.std.specs.List.{slice_get}
 use Rattle.std.proofs.lemmas.Option.{slice_get_within}
 use Rattle.cell_merge.specs.Cell.{IsNotBelow}
@@ -8,7 +8,7 @@ use Rattle.register_model.specs.declared.data.ClientEvent.{ClientEvent}
 use Rattle.register_model.specs.declared.data.ClientEvent.TheVariants.{WriteBegun, WriteAcked, ReadBegun, ReadOk, Ended}
 use Rattle.register_model.specs.declared.data.Key.{Key}
 use Rattle.register_model.specs.declared.data.Request.{Request}
-use Rattle.register_model.specs.Register.{begun_by, ended_by, Stands, BeginsAt, EndsAt, WriteBeganBefore, ReadBeganBefore, WrittenBefore, HasBegun, BeginsOnce, EndsOpen, ReadsWritten, ReadsNotBelow, IsRegisterRun}
+use Rattle.register_model.specs.Register.{begun_by, ended_by, Stands, BeginsAt, EndsAt, WriteBeganBefore, ReadBeganBefore, WrittenBefore, HasBegun, BeginsOnce, ReadsWritten, ReadsNotBelow, IsRegisterRun}
 
 -- ---- places of a list that goes on
 
@@ -47,9 +47,6 @@ pub record MayCome (events : List ClientEvent) (next : ClientEvent) : Type 0 whe
   pub not_below : (wrote acked begin : ℕ) (writer reader : Request) (key : Key) (written : Cell) (cell : Option Cell) → next ≡ ReadOk reader cell → Stands events wrote (WriteBegun writer key written) → Stands events acked (WriteAcked writer) → acked < begin → Stands events begin (ReadBegun reader key) → IsNotBelow cell (Some written)
 
 module _ (events : List ClientEvent) (next : ClientEvent) (run : IsRegisterRun events) (may : MayCome events next) where
-  longer : List ClientEvent
-  longer = events ++ next ∷ []
-
   write-more : (place : ℕ) (request : Request) → WriteBeganBefore events place request → WriteBeganBefore (events ++ next ∷ []) place request
   write-more place request before =
       record { at = before.at; key = before.key; cell = before.cell; earlier = before.earlier; stands = stands-more events (next ∷ []) before.at (WriteBegun request before.key before.cell) before.stands }
@@ -74,26 +71,26 @@ module _ (events : List ClientEvent) (next : ClientEvent) (run : IsRegisterRun e
   begins-once i j request a b =
       elim (stands-split events next i a.event a.stands) [
         | inl old ↦ elim (stands-split events next j b.event b.stands) [
-            | inl old2 ↦ run.begins_once i j request (record { event = a.event; stands = old; begins = a.begins }) (record { event = b.event; stands = old2; begins = b.begins })
-            | inr last ↦ absurd (may.fresh i request (ap begun_by (sym last.same) ∙ b.begins) (record { event = a.event; stands = old; begins = a.begins }))
-          ]
+          | inl old2 ↦ run.begins_once i j request (record { event = a.event; stands = old; begins = a.begins }) (record { event = b.event; stands = old2; begins = b.begins })
+          | inr last ↦ absurd (may.fresh i request (ap begun_by (sym last.same) ∙ b.begins) (record { event = a.event; stands = old; begins = a.begins }))
+        ]
         | inr last ↦ elim (stands-split events next j b.event b.stands) [
-            | inl old ↦ absurd (may.fresh j request (ap begun_by (sym last.same) ∙ a.begins) (record { event = b.event; stands = old; begins = b.begins }))
-            | inr last2 ↦ last.place ∙ sym last2.place
-          ]
+          | inl old ↦ absurd (may.fresh j request (ap begun_by (sym last.same) ∙ a.begins) (record { event = b.event; stands = old; begins = b.begins }))
+          | inr last2 ↦ last.place ∙ sym last2.place
+        ]
       ]
 
   ends-once : (i j : ℕ) (request : Request) → EndsAt (events ++ next ∷ []) i request → EndsAt (events ++ next ∷ []) j request → i ≡ j
   ends-once i j request a b =
       elim (stands-split events next i a.event a.stands) [
         | inl old ↦ elim (stands-split events next j b.event b.stands) [
-            | inl old2 ↦ run.ends_open.once i j request (record { event = a.event; stands = old; ends = a.ends }) (record { event = b.event; stands = old2; ends = b.ends })
-            | inr last ↦ absurd (may.unended i request (ap ended_by (sym last.same) ∙ b.ends) (record { event = a.event; stands = old; ends = a.ends }))
-          ]
+          | inl old2 ↦ run.ends_open.once i j request (record { event = a.event; stands = old; ends = a.ends }) (record { event = b.event; stands = old2; ends = b.ends })
+          | inr last ↦ absurd (may.unended i request (ap ended_by (sym last.same) ∙ b.ends) (record { event = a.event; stands = old; ends = a.ends }))
+        ]
         | inr last ↦ elim (stands-split events next j b.event b.stands) [
-            | inl old ↦ absurd (may.unended j request (ap ended_by (sym last.same) ∙ a.ends) (record { event = b.event; stands = old; ends = b.ends }))
-            | inr last2 ↦ last.place ∙ sym last2.place
-          ]
+          | inl old ↦ absurd (may.unended j request (ap ended_by (sym last.same) ∙ a.ends) (record { event = b.event; stands = old; ends = b.ends }))
+          | inr last2 ↦ last.place ∙ sym last2.place
+        ]
       ]
 
   have-begun : (place : ℕ) (event : ClientEvent) → Stands (events ++ next ∷ []) place event → HasBegun (events ++ next ∷ []) place event
@@ -115,35 +112,35 @@ module _ (events : List ClientEvent) (next : ClientEvent) (run : IsRegisterRun e
   reads-written begin place request key cell begins ends =
       elim (stands-split events next place (ReadOk request (Some cell)) ends) [
         | inl old ↦ elim (stands-split events next begin (ReadBegun request key) begins) [
-            | inl old2 ↦ written-more place key cell (run.reads_written begin place request key cell old2 old)
-            | inr last ↦ absurd (not_now place request key (Some cell) last.same old)
-          ]
+          | inl old2 ↦ written-more place key cell (run.reads_written begin place request key cell old2 old)
+          | inr last ↦ absurd (not_now place request key (Some cell) last.same old)
+        ]
         | inr last ↦ elim (stands-split events next begin (ReadBegun request key) begins) [
-            | inl old ↦ let Q : ℕ → Type 0 = λ n. WrittenBefore events n key cell in
-                written-more place key cell (subst Q (sym last.place) (may.written begin request key cell (sym last.same) old))
-            | inr last2 ↦ let wrong : ReadOk request (Some cell) ≡ ReadBegun request key = last.same ∙ sym last2.same in cc
-          ]
+          | inl old ↦ let Q : ℕ → Type 0 = λ n. WrittenBefore events n key cell in
+              written-more place key cell (subst Q (sym last.place) (may.written begin request key cell (sym last.same) old))
+          | inr last2 ↦ let wrong : ReadOk request (Some cell) ≡ ReadBegun request key = last.same ∙ sym last2.same in cc
+        ]
       ]
 
   reads-not_below : ReadsNotBelow (events ++ next ∷ [])
   reads-not_below wrote acked begin place writer reader key written cell writes acks before begins ends =
       elim (stands-split events next begin (ReadBegun reader key) begins) [
         | inr last ↦ elim (stands-split events next place (ReadOk reader cell) ends) [
-            | inl old ↦ absurd (not_now place reader key cell last.same old)
-            | inr last2 ↦ let wrong : ReadOk reader cell ≡ ReadBegun reader key = last2.same ∙ sym last.same in cc
-          ]
+          | inl old ↦ absurd (not_now place reader key cell last.same old)
+          | inr last2 ↦ let wrong : ReadOk reader cell ≡ ReadBegun reader key = last2.same ∙ sym last.same in cc
+        ]
         | inl began ↦ elim (stands-split events next acked (WriteAcked writer) acks) [
-            | inr last ↦ absurd (omega (arith, slice_get_within events begin (ReadBegun reader key) began, last.place))
-            | inl ack ↦ elim (stands-split events next wrote (WriteBegun writer key written) writes) [
-                | inr last ↦
-                    let old : WriteBeganBefore events acked writer = run.ends_open.begun acked (WriteAcked writer) ack in
-                    absurd (may.fresh old.at writer (ap begun_by (sym last.same)) (record { event = WriteBegun writer old.key old.cell; stands = old.stands; begins = refl }))
-                | inl wrote_old ↦ elim (stands-split events next place (ReadOk reader cell) ends) [
-                    | inl old ↦ run.reads_not_below wrote acked begin place writer reader key written cell wrote_old ack before began old
-                    | inr last ↦ may.not_below wrote acked begin writer reader key written cell (sym last.same) wrote_old ack before began
-                  ]
-              ]
+          | inr last ↦ absurd (omega (arith, slice_get_within events begin (ReadBegun reader key) began, last.place))
+          | inl ack ↦ elim (stands-split events next wrote (WriteBegun writer key written) writes) [
+            | inr last ↦
+                let old : WriteBeganBefore events acked writer = run.ends_open.begun acked (WriteAcked writer) ack in
+                absurd (may.fresh old.at writer (ap begun_by (sym last.same)) (record { event = WriteBegun writer old.key old.cell; stands = old.stands; begins = refl }))
+            | inl wrote_old ↦ elim (stands-split events next place (ReadOk reader cell) ends) [
+              | inl old ↦ run.reads_not_below wrote acked begin place writer reader key written cell wrote_old ack before began old
+              | inr last ↦ may.not_below wrote acked begin writer reader key written cell (sym last.same) wrote_old ack before began
+            ]
           ]
+        ]
       ]
 
   pub run-longer : IsRegisterRun (events ++ next ∷ [])

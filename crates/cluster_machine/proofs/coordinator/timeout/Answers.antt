@@ -1,4 +1,4 @@
-use Rattle.std.proofs.Common.{◌≡◌, reverse}
+use Rattle.std.proofs.Common.{reverse}
 use Rattle.cluster_history.specs.declared.data.Event.TheVariants.{Timeout}
 use Rattle.cluster_machine.proofs.CoordinatorLemmas.{journal-added, lane-journal, live-to-end}
 use Rattle.cluster_machine.proofs.coordinator.timeout.Goals as goal

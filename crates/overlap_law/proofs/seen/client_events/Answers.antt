@@ -13,6 +13,7 @@ pub loop-entry-preserved : goal.loop-entry-preserved
 loop-entry-preserved c =
     let past : List Entry = reverse (take c.loop-entry.entry-index c.as_slice-entries.result.now) in
     let P : List Entry → Type 0 = λ h. (c.add_entry.new.seen ≡ seen_in h) × AreCounts h c.add_entry.new.counts in
-    subst P (sym (history_more c.as_slice-entries.result.now c.loop-entry.entry-index c.entry-item.result c.loop-entry-test.true c.entry-item.is))
-    (c.in_ok-add_entry.ensures.events past c.loop-entry.invariant.1 ∙ ap (λ l. l ++ seen_of past c.entry-item.result.event c.entry-item.result.outputs) c.loop-entry.invariant.0,
-    c.in_ok-add_entry.ensures.counted past c.loop-entry.invariant.1)
+    subst P (sym (history_more c.as_slice-entries.result.now c.loop-entry.entry-index c.entry-item.result c.loop-entry-test.true c.entry-item.is)) (
+      c.in_ok-add_entry.ensures.events past c.loop-entry.invariant.1 ∙ ap (λ l. l ++ seen_of past c.entry-item.result.event c.entry-item.result.outputs) c.loop-entry.invariant.0,
+      c.in_ok-add_entry.ensures.counted past c.loop-entry.invariant.1,
+    )

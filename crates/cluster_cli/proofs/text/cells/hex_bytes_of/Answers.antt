@@ -1,7 +1,7 @@
-use Rattle.std.proofs.Common.{◌∙◌, ◌≡◌, ◌/◌, ◌≤◌, ◌<◌, ◌+◌, ◌*◌, length, take, sym, arith}
+use Rattle.std.proofs.Common.{◌∙◌, ◌≡◌, ◌/◌, ◌≤◌, length, take, sym, arith}
 use Rattle.std.proofs.Math.ListN.{length-set}
 use Rattle.std.proofs.lemmas.Grind.{common_steps}
-use Rattle.cluster_cli.proofs.TextCellLemmas.{odd_hex, hex_more, hex_fails, hex_done, made_bytes}
+use Rattle.cluster_cli.proofs.TextCellLemmas.{odd_hex, hex_more, hex_done, made_bytes}
 use Rattle.cluster_cli.proofs.text.cells.hex_bytes_of.Goals as goal
 
 pub returns-then-word-eq1 : goal.returns-then-word-eq1

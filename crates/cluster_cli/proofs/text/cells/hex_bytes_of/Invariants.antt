@@ -1,4 +1,4 @@
-use Rattle.std.proofs.Common.{◌≡◌, ◌*◌, ◌<◌, ◌≤◌, length, take, drop}
+use Rattle.std.proofs.Common.{◌≡◌, ◌*◌, length, take, drop}
 use Rattle.cluster_cli.specs.TextCells.{hex_bytes_of}
 use Rattle.cluster_cli.proofs.TextCellLemmas.{behind_bytes}
 use Rattle.cluster_cli.proofs.text.cells.hex_bytes_of.Given as goal

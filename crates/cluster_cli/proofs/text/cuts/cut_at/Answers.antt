@@ -1,5 +1,4 @@
-use Rattle.std.proofs.Common.{sym, ◌∙◌, None, ap}
-use Rattle.std.specs.Option.{option_map}
+use Rattle.std.proofs.Common.{sym, ◌∙◌}
 use Rattle.cluster_cli.proofs.TextCutLemmas.{some_cut, no_cut}
 use Rattle.cluster_cli.proofs.text.cuts.cut_at.Goals as goal
 

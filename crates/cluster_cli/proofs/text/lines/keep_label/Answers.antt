@@ -1,7 +1,4 @@
 use Rattle.std.proofs.lemmas.Map.Text.{btree_map_updates_str}
-use Rattle.std.specs.Option.{option_copied}
-use Rattle.cluster_cli.specs.TextLabels.{named_in}
-use Rattle.cluster_cli.specs.TextEvents.{with_label}
 use Rattle.cluster_cli.proofs.TextLineLemmas.{same_function}
 use Rattle.cluster_cli.proofs.text.lines.keep_label.Goals as goal
 

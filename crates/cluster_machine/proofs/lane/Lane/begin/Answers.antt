@@ -1,5 +1,4 @@
-use Rattle.std.proofs.Common.{ap, ◌∙◌, ◌∷◌, [], ◌++◌}
-use Rattle.std.specs.Map.{keys_of}
+use Rattle.std.proofs.Common.{ap}
 use Rattle.std.proofs.lemmas.List.{map-append}
 use Rattle.base_ids.specs.declared.ids.OpId.{OpId}
 use Rattle.cluster_machine.specs.Lanes.{upcoming}

@@ -1,4 +1,4 @@
-use Rattle.std.proofs.Common.{◌≡◌, ◌∙◌, List, reverse, sym, ap}
+use Rattle.std.proofs.Common.{◌∙◌, List, reverse, sym, ap}
 use Rattle.cluster_history.specs.Legal.{broken, broken_after}
 use Rattle.cluster_history.specs.declared.data.Entry.{Entry}
 use Rattle.cluster_history.specs.declared.data.Event.TheVariants.{Take, Serve}
