@@ -1,7 +1,6 @@
 -- The line that the reading names is the first one at fault.
-use Rattle.std.proofs.Common.{◌≡◌, ◌≢◌, ℕ, zero, suc, ◌+◌, ◌^◌, ◌<◌, ◌≤◌, ◌⊎◌, inl, inr, Bool, true, false, cond, List, [], ◌∷◌, ◌++◌, append-nil, append_assoc, length, length-append, nat_lt, map, Option, Some, None, Result, Ok, Err, codes, bytes_eq, option_and_then, refl, sym, ap, subst, ◌∙◌, arith}
+use Rattle.std.proofs.Common.{◌≡◌, ℕ, suc, ◌+◌, ◌^◌, ◌<◌, ◌≤◌, ◌⊎◌, inl, inr, Bool, true, false, cond, List, [], ◌∷◌, ◌++◌, append-nil, append_assoc, length, length-append, nat_lt, Option, Some, None, Result, Ok, Err, codes, bytes_eq, option_and_then, refl, sym, ap, subst, ◌∙◌, arith}
 use Rattle.std.specs.List.{AllByRecursion}
-use Rattle.std.proofs.lemmas.Option.{same_Some}
 use Rattle.std.proofs.lemmas.Bool.Decides.{nat_tests}
 use Rattle.base_ids.specs.declared.ids.Replica.{Replica}
 use Rattle.base_ids.specs.declared.ids.TableId.{TableId}
@@ -10,7 +9,7 @@ use Rattle.cluster_cli.specs.declared.schedule.Schedule.{Schedule}
 use Rattle.cluster_cli.specs.declared.schedule.SchedLine.{SchedLine}
 use Rattle.cluster_cli.specs.declared.schedule.LineAct.TheVariants.{Event}
 use Rattle.cluster_cli.specs.declared.schedule.LineEvent.{LineEvent}
-use Rattle.cluster_cli.specs.TextCuts.{lines_of, first_line}
+use Rattle.cluster_cli.specs.TextCuts.{lines_of}
 use Rattle.cluster_cli.specs.TextHeader.{hosts_of, lanes_of, table_of, after_line, first_as}
 use Rattle.cluster_cli.specs.TextEvents.{line_of, with_label}
 use Rattle.cluster_cli.specs.Text as text
@@ -18,13 +17,13 @@ use Rattle.cluster_cli.specs.Text.{Gives, at_line, header_of, events_of, reading
 use Rattle.cluster_cli.specs.declared.text.ParseError.{ParseError}
 use Rattle.cluster_cli.specs.declared.text.ParseError.TheVariants.{Refused, NoMemory}
 use Rattle.cluster_cli.specs.declared.text.TextRule.TheVariants.{NotBuilt}
-use Rattle.cluster_cli.specs.GrammarWords.{IsFree, IsNumberBelow, ArePieces}
+use Rattle.cluster_cli.specs.GrammarWords.{IsFree, IsNumberBelow}
 use Rattle.cluster_cli.specs.Grammar.{IsCountLine, IsReplica, IsTableLine, AreEventLines, Labels, IsEventLine, with_name, ended, IsSchedule, IsBeginning, IsFaultAt, IsTold}
-use Rattle.cluster_cli.proofs.TextPlayable.{ok_step, at_step, same_Ok}
-use Rattle.cluster_cli.proofs.GrammarPieces.{AreLines, are_lines, lines_again, whole_lines, are_pieces, pieces_are}
+use Rattle.cluster_cli.proofs.TextPlayable.{at_step, same_Ok}
+use Rattle.cluster_cli.proofs.GrammarPieces.{AreLines, are_lines, lines_again, whole_lines, pieces_are}
 use Rattle.cluster_cli.proofs.GrammarNumbers.{OneToken}
 use Rattle.cluster_cli.proofs.GrammarLines.{Ties, no_ties, ties_more, line_there}
-use Rattle.cluster_cli.proofs.GrammarText.{text_then, Gave, read_then, hosts_there, lanes_there, IsHeader, header_there, AreTold, events_there, no_lines, free_by, reading_there, reading_back}
+use Rattle.cluster_cli.proofs.GrammarText.{text_then, read_then, hosts_there, lanes_there, IsHeader, header_there, free_by, reading_there, reading_back}
 use Rattle.cluster_cli.proofs.GrammarLines.{table_there}
 
 -- ---- a fault stands on the lines up to it alone

@@ -1,5 +1,5 @@
 -- What is read as a line is spelt so, and the other way round.
-use Rattle.std.proofs.Common.{◌≡◌, ◌≢◌, ◌<◌, ◌≤◌, ℕ, ◌+◌, ◌^◌, ◌==◌, ◌&&◌, ◌⊎◌, inl, inr, not, Bool, true, false, cond, nat_le, IsTrue, is_some, List, [], ◌∷◌, ◌++◌, length, Option, Some, None, Result, Ok, Err, codes, bytes_eq, refl, sym, ap, subst, ◌∙◌, arith}
+use Rattle.std.proofs.Common.{◌≡◌, ◌≢◌, ◌≤◌, ℕ, ◌+◌, ◌^◌, ◌&&◌, ◌⊎◌, inl, inr, Bool, true, false, nat_le, is_some, List, [], ◌∷◌, ◌++◌, length, Option, Some, None, codes, bytes_eq, refl, sym, ap, subst, ◌∙◌, arith}
 use Rattle.std.specs.List.{AllByRecursion, list_all}
 use Rattle.std.proofs.lemmas.Bool.Decides.{nat_tests}
 use Rattle.std.proofs.lemmas.Option.{cond_some, same_Some}
@@ -9,7 +9,6 @@ use Rattle.base_ids.specs.declared.ids.OpId.{OpId}
 use Rattle.base_ids.specs.declared.ids.Replica.{Replica}
 use Rattle.base_ids.specs.declared.ids.TableId.{TableId}
 use Rattle.token_ring.specs.declared.token.Token.{Token}
-use Rattle.cell_merge.specs.declared.cell.Cell.{Cell}
 use Rattle.cluster_history.specs.Openings.{has_distinct_hosts}
 use Rattle.cluster_history.specs.declared.data.Opening.{Opening}
 use Rattle.cluster_history.specs.declared.data.Operation.{Operation}
@@ -18,15 +17,15 @@ use Rattle.cluster_cli.specs.declared.schedule.LineRef.{LineRef}
 use Rattle.cluster_cli.specs.declared.schedule.LineRef.TheVariants.{Line}
 use Rattle.cluster_cli.specs.declared.schedule.LineEvent.{LineEvent}
 use Rattle.cluster_cli.specs.declared.schedule.LineEvent.TheVariants.{Begin, Take, Timeout, Serve}
-use Rattle.cluster_cli.specs.TextCuts.{◌>>=◌, words_of, at_colons, at_dots, pieces_of, first_of, only_of, after_word}
+use Rattle.cluster_cli.specs.TextCuts.{words_of, at_colons, at_dots, pieces_of, first_of, only_of, after_word}
 use Rattle.cluster_cli.specs.TextNumbers.{number_below}
 use Rattle.cluster_cli.specs.TextCells.{token_of, cell_of}
 use Rattle.cluster_cli.specs.TextHeader.{count_of, replica_of, replicas_of, are_replicas, tablet_of, table_start_of, table_of}
 use Rattle.cluster_cli.specs.TextEvents.{host_of, lane_of, is_letter, is_letter_or_digit, is_label, is_empty, label_of, reference_of, write_of, read_of, operation_of, begin_of, take_of, timeout_of, serve_of, event_of, unlabelled_of, labelled_of, by_label, line_of, with_label}
-use Rattle.cluster_cli.specs.GrammarWords.{IsFree, IsDigit, IsNumberBelow, IsTokenWord, IsCell, ArePieces}
+use Rattle.cluster_cli.specs.GrammarWords.{IsFree, IsDigit, IsNumberBelow, IsTokenWord, ArePieces}
 use Rattle.cluster_cli.specs.Grammar.{IsCountLine, IsReplica, AreReplicas, IsTableLine, IsLetter, IsName, Labels, IsLabelOf, IsNew, IsLane, IsReference, IsWrite, IsRead, IsOperation, IsBegin, IsTake, IsTimeout, IsServe, IsEvent, IsEventLine, with_name}
 use Rattle.cluster_cli.proofs.TextPlayable.{some_step, both}
-use Rattle.cluster_cli.proofs.GrammarPieces.{cut, pieces_are, first_then, only_then, not_equal, same_test}
+use Rattle.cluster_cli.proofs.GrammarPieces.{cut, pieces_are, first_then, only_then}
 use Rattle.cluster_cli.proofs.GrammarNumbers.{which, within, is_within, number_there, number_back, OneToken, token_there, token_back, cell_there, cell_back, spelt_so, spells}
 
 -- two pieces

@@ -1,5 +1,5 @@
 -- What is read as a number, a token or a cell is spelt so, and the other way round.
-use Rattle.std.proofs.Common.{◌≡◌, ◌≢◌, ℕ, suc, ◌+◌, ◌-◌, ◌*◌, ◌^◌, ◌<◌, ◌≤◌, ◌==◌, ◌&&◌, ◌⊎◌, inl, inr, ℤ, pos, ◌-ℤ◌, Bool, true, false, cond, nat_lt, nat_le, List, [], ◌∷◌, ◌++◌, length, Option, Some, None, codes, option_map, bytes_eq, refl, sym, ap, subst, ◌∙◌, arith}
+use Rattle.std.proofs.Common.{◌≡◌, ℕ, suc, ◌+◌, ◌-◌, ◌*◌, ◌^◌, ◌<◌, ◌≤◌, ◌==◌, ◌&&◌, ◌⊎◌, inl, inr, ℤ, pos, ◌-ℤ◌, Bool, true, false, cond, nat_lt, nat_le, List, [], ◌∷◌, ◌++◌, length, Option, Some, None, codes, option_map, bytes_eq, refl, sym, ap, subst, ◌∙◌, arith}
 use Rattle.std.specs.List.{AllByRecursion}
 use Rattle.std.proofs.Math.Nat.{pow-suc}
 use Rattle.std.proofs.lemmas.Bool.Decides.{nat_tests}
@@ -9,13 +9,13 @@ use Rattle.cell_merge.specs.declared.cell.Cell.{Cell}
 use Rattle.cell_merge.specs.declared.cell.Body.{Body}
 use Rattle.cell_merge.specs.declared.cell.Body.TheVariants.{Live, Dead}
 use Rattle.token_ring.specs.declared.token.Token.{Token}
-use Rattle.cluster_cli.specs.TextCuts.{◌>>=◌, at_colons, pieces_of, first_of, only_of}
+use Rattle.cluster_cli.specs.TextCuts.{at_colons, pieces_of, first_of, only_of}
 use Rattle.cluster_cli.specs.TextNumbers.{digit_of, with_digits, unsigned_of, number_below, negative_of, positive_of, signed_of}
-use Rattle.cluster_cli.specs.TextCells.{has_token, token_if, token_at, token_of, hex_digit_of, hex_byte_of, hex_bytes_of, value_of, body_of, cell_of}
-use Rattle.cluster_cli.specs.GrammarWords.{IsDigit, worth, IsNumberBelow, IsPositive, IsNegative, IsSigned, IsTokenWord, IsHexDigit, IsHexByte, IsHex, IsBody, IsCell, ArePieces, AtColons}
+use Rattle.cluster_cli.specs.TextCells.{has_token, token_if, token_of, hex_digit_of, hex_byte_of, hex_bytes_of, value_of, body_of, cell_of}
+use Rattle.cluster_cli.specs.GrammarWords.{IsDigit, worth, IsNumberBelow, IsPositive, IsNegative, IsSigned, IsTokenWord, IsHexDigit, IsHexByte, IsHex, IsBody, IsCell}
 use Rattle.cluster_cli.proofs.TextPlayable.{some_step, both}
 use Rattle.cluster_cli.proofs.TextCellLemmas.{token_found}
-use Rattle.cluster_cli.proofs.GrammarPieces.{cut, pieces_are, first_then, only_then, not_equal, same_test}
+use Rattle.cluster_cli.proofs.GrammarPieces.{cut, pieces_are, first_then, only_then, same_test}
 
 -- which way a test went
 pub which : {X : Type 0} (test : Bool) (a b c : X) → cond test a b ≡ c → ((test ≡ true) × (a ≡ c)) ⊎ ((test ≡ false) × (b ≡ c))

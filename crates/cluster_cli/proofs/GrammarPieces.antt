@@ -1,9 +1,9 @@
 -- A text is pieces exactly where it is cut into them, and lines exactly where it is cut into lines.
-use Rattle.std.proofs.Common.{◌≡◌, ◌≢◌, ℕ, ◌+◌, ◌<◌, ◌==◌, ◌++◌, Bool, true, false, cond, List, [], ◌∷◌, length, map, Option, Some, None, codes, eq-eqb, refl, sym, ap, subst, ◌∙◌, arith, append_assoc}
+use Rattle.std.proofs.Common.{◌≡◌, ◌≢◌, ℕ, ◌<◌, ◌==◌, ◌++◌, Bool, true, false, cond, List, [], ◌∷◌, length, map, Option, Some, None, codes, eq-eqb, refl, sym, ap, subst, ◌∙◌, arith, append_assoc}
 use Rattle.std.specs.List.{AllByRecursion}
 use Rattle.std.proofs.lemmas.Bool.Decides.{nat_tests}
 use Rattle.std.proofs.lemmas.Option.{same_Some}
-use Rattle.cluster_cli.specs.TextCuts.{lines_of, first_line, onto_line, onto_piece, pieces_of, first_of, only_of}
+use Rattle.cluster_cli.specs.TextCuts.{lines_of, onto_line, onto_piece, pieces_of, first_of, only_of}
 use Rattle.cluster_cli.specs.GrammarWords.{IsFree, joined, ArePieces}
 use Rattle.cluster_cli.specs.Grammar.{ended}
 

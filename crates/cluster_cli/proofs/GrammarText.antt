@@ -1,24 +1,20 @@
 -- What is read as a schedule is spelt so, and the other way round.
-use Rattle.std.proofs.Common.{◌≡◌, ◌≢◌, ℕ, suc, ◌+◌, ◌<◌, ◌≤◌, ◌==◌, ◌&&◌, not, ◌⊎◌, inl, inr, Bool, true, false, cond, List, [], ◌∷◌, ◌++◌, append-nil, append_assoc, length, Option, Some, None, Result, Ok, Err, codes, bytes_eq, refl, sym, ap, subst, ◌∙◌, arith}
+use Rattle.std.proofs.Common.{◌≡◌, ℕ, ◌+◌, ◌==◌, ◌&&◌, not, Bool, true, false, cond, List, [], ◌∷◌, ◌++◌, append-nil, Option, Some, None, Ok, codes, bytes_eq, refl, sym, ap, subst, ◌∙◌}
 use Rattle.std.specs.List.{AllByRecursion, list_all}
 use Rattle.std.proofs.lemmas.Option.{cond_some, same_Some}
-use Rattle.base_ids.specs.declared.ids.Replica.{Replica}
-use Rattle.base_ids.specs.declared.ids.TableId.{TableId}
 use Rattle.cluster_history.specs.declared.data.Opening.{Opening}
 use Rattle.cluster_cli.specs.declared.schedule.Schedule.{Schedule}
 use Rattle.cluster_cli.specs.declared.schedule.SchedLine.{SchedLine}
 use Rattle.cluster_cli.specs.declared.schedule.LineAct.TheVariants.{Event}
-use Rattle.cluster_cli.specs.declared.schedule.LineEvent.{LineEvent}
 use Rattle.cluster_cli.specs.TextCuts.{lines_of, onto_line, first_line}
 use Rattle.cluster_cli.specs.TextHeader.{hosts_of, lanes_of, table_of, after_line, first_as}
 use Rattle.cluster_cli.specs.TextEvents.{line_of, with_label}
-use Rattle.cluster_cli.specs.Text as text
 use Rattle.cluster_cli.specs.Text.{at_line, header_of, events_of, reading}
 use Rattle.cluster_cli.specs.GrammarWords.{IsFree}
 use Rattle.cluster_cli.specs.Grammar.{IsCountLine, IsTableLine, Labels, IsEventLine, with_name, AreEventLines, ended, IsSchedule}
 use Rattle.cluster_cli.proofs.TextPlayable.{some_step, ok_step, at_step, same_Ok}
-use Rattle.cluster_cli.proofs.GrammarPieces.{not_equal, differ, AreLines, are_lines, lines_again, whole_lines}
-use Rattle.cluster_cli.proofs.GrammarNumbers.{OneToken, spelt_so, spells}
+use Rattle.cluster_cli.proofs.GrammarPieces.{differ, AreLines, are_lines, lines_again, whole_lines}
+use Rattle.cluster_cli.proofs.GrammarNumbers.{OneToken, spelt_so}
 use Rattle.cluster_cli.proofs.GrammarLines.{Ties, no_ties, ties_more, count_there, count_back, table_there, table_back, line_there, line_back}
 
 -- ---- the header
