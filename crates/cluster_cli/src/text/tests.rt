@@ -114,7 +114,7 @@ fn a_text_of_each_form_is_read(rt: HostRuntime) -> Result<(), Fail> {
 #[test]
 fn the_first_line_at_fault_is_named(rt: HostRuntime) -> Result<(), Fail> {
     let none: &[u8] = b"";
-    let texts: [(&[u8], &[u8], u64); 32] = [
+    let texts: [(&[u8], &[u8], u64); 36] = [
         (none, b"", 1),
         (none, b"tablets 1", 1),
         (none, b"tablets 01\n", 1),
@@ -144,6 +144,18 @@ fn the_first_line_at_fault_is_named(rt: HostRuntime) -> Result<(), Fail> {
         (HEADER, b"w: begin 0.0 read 7 5\nserve 0 v.0\n", 7),
         (HEADER, b"w: begin 0.0 read 7 5\nserve 0 6.0\n", 7),
         (HEADER, b"w: begin 0.0 read 7 5\nw: begin 0.0 read 7 5\n", 7),
+        (
+            HEADER,
+            b"begin 0.0 write 7 5 live:9223372036854775808:61\n",
+            6,
+        ),
+        (
+            HEADER,
+            b"begin 0.0 write 7 5 live:-9223372036854775809:61\n",
+            6,
+        ),
+        (HEADER, b"abcdefgh12345678z: begin 0.0 read 7 5\n", 6),
+        (HEADER, b"w: begin 0.0 read 7 5\nserve 0 w.4294967296\n", 7),
         (HEADER, b"timeout 0.0\n", 6),
         (HEADER, b"timeout 0.0 18446744073709551616\n", 6),
         (
