@@ -2,7 +2,7 @@
 use crate::play::PlayError;
 use crate::text::{ParseError, TextRule};
 use base_ids::{EventRule, NoMemory};
-use cluster_machine::StepError;
+use path_machine::StepError;
 use fault_io::{ReadError, WriteFault};
 use std::test::Fail;
 

@@ -4,7 +4,7 @@ use crate::program::{Words, cluster_main, play_main};
 use crate::report;
 use base_ids::{HostId, Items, LaneId, MsgRef, NoMemory, OpId, ReplicaList, TableId, Version};
 use cell_merge::{Body, Bytes64, Cell};
-use cluster_history::{Entry, Event, Journal, Message, Opening, Output, OutputList};
+use path_history::{Entry, Event, Journal, Message, Opening, Output, OutputList};
 use fault_io::{MemorySink, MemorySource};
 use quorum_ops::{Answer, ReadAsk, Reply, Said, WriteAsk};
 use stage_graph::Kind;
