@@ -1,0 +1,10 @@
+//! A value with several owners, which contracts see as the value itself.
+#![tactic(auto)]
+
+mod shared;
+
+pub use shared::Shared;
+pub use shared::Shared as Arc;
+
+#[cfg(test)]
+mod tests;
