@@ -3,8 +3,7 @@
 
 mod shared;
 
-pub use shared::Shared;
-pub use shared::Shared as Arc;
+pub use shared::{Shared, Shared as Arc};
 
 #[cfg(test)]
 mod tests;
