@@ -6,7 +6,7 @@ ghost use Rattle.base_ids.specs.declared.ids.MsgRef.{MsgRef};
 ghost use Rattle.base_ids.specs.declared.ids.OpId.{OpId};
 ghost use Rattle.base_ids.specs.declared.ids.Replica.{Replica};
 ghost use Rattle.base_ids.specs.declared.ids.Version.{Version};
-ghost use Rattle.quorum_tally.specs.Replicas.{AreDistinct};
+ghost use Rattle.base_ids.specs.Replicas.{AreDistinct};
 ghost use Rattle.quorum_ops.specs.declared.data.Answer.{Answer};
 ghost use Rattle.quorum_ops.specs.Pending.{Names, IsUndecided, timeout_of};
 ghost use Rattle.request_table.specs.Requests.{request_of};

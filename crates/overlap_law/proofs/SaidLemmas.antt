@@ -13,7 +13,7 @@ use Rattle.cell_merge.specs.declared.cell.Cell.{Cell}
 use Rattle.cell_merge.specs.Cell.{is_not_below}
 use Rattle.cell_merge.proofs.CellOrder.{not_below}
 use Rattle.register_model.specs.declared.data.Key.{Key}
-use Rattle.quorum_tally.specs.Replicas.{same_replica}
+use Rattle.base_ids.specs.Replicas.{same_replica}
 use Rattle.quorum_ops.specs.declared.data.Answer.{Answer}
 use Rattle.quorum_ops.specs.declared.data.ReadAsk.{ReadAsk}
 use Rattle.quorum_ops.specs.declared.data.WriteAsk.{WriteAsk}

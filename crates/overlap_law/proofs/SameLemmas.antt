@@ -8,7 +8,7 @@ use Rattle.base_ids.specs.declared.ids.OpId.{OpId}
 use Rattle.base_ids.specs.declared.ids.Replica.{Replica}
 use Rattle.token_ring.proofs.Tokens.{same_token}
 use Rattle.register_model.specs.declared.data.Key.{Key}
-use Rattle.quorum_tally.specs.Replicas.{same_replica}
+use Rattle.base_ids.specs.Replicas.{same_replica}
 use Rattle.cluster_history.specs.Names.{same_host, same_lane, same_op, same_key}
 
 pub both_true : (p q : Bool) → (p && q) ≡ true → (p ≡ true) × (q ≡ true)

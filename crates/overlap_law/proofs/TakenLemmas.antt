@@ -13,7 +13,7 @@ use Rattle.token_ring.specs.declared.token.Token.{Token}
 use Rattle.cell_merge.specs.declared.cell.Cell.{Cell}
 use Rattle.cell_merge.proofs.CellOrder.{greater-choice}
 use Rattle.register_model.specs.declared.data.Key.{Key}
-use Rattle.quorum_tally.specs.Replicas.{same_replica}
+use Rattle.base_ids.specs.Replicas.{same_replica}
 use Rattle.quorum_ops.specs.Decision.{first_said, says_data, said_cell, has_answered, greatest_told}
 use Rattle.quorum_ops.specs.declared.data.Answer.{Answer}
 use Rattle.quorum_ops.specs.declared.data.Said.{Said}

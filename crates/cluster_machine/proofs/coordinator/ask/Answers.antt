@@ -3,7 +3,7 @@ use Rattle.base_ids.specs.declared.ids.Replica.{Replica}
 use Rattle.base_ids.specs.declared.ids.OpId.{OpId}
 use Rattle.cluster_history.specs.Legal.{with_event}
 use Rattle.cluster_history.specs.declared.data.Entry.{Entry}
-use Rattle.quorum_tally.specs.Replicas.{AreDistinct}
+use Rattle.base_ids.specs.Replicas.{AreDistinct}
 use Rattle.cluster_history.specs.Requests.{quorum}
 use Rattle.cluster_history.specs.declared.data.Event.TheVariants.{Begin}
 use Rattle.cluster_machine.specs.Lanes.{work_on, upcoming}
