@@ -7,3 +7,4 @@ pub mod Lists
 pub mod Sessions
 pub mod Sound
 pub mod Openings
+pub mod Changes
