@@ -7,6 +7,7 @@ use Rattle.std.proofs.lemmas.List.{length-map}
 use Rattle.std.proofs.lemmas.List.Sums.{sum_by-cons}
 use Rattle.std.proofs.Math.ListN.{length-replicate, length-set}
 use Rattle.tablet_map.proofs.Joined.{and_left, and_right, or_left, or_right, not_true}
+use Rattle.base_ids.specs.declared.ids.HostId.{HostId}
 use Rattle.base_ids.specs.declared.ids.TableId.{TableId}
 use Rattle.tablet_map.specs.declared.tablet.Tablet.{Tablet}
 use Rattle.tablet_map.specs.Tablets.{Tablets, tablet_in}
@@ -19,13 +20,14 @@ use Rattle.topo_state.specs.declared.command.Command.{Command}
 use Rattle.topo_state.specs.declared.command.Command.TheVariants.{CreateTable, Start, Advance, SetFence, Join, Leave, Resize, FinalizeResize}
 use Rattle.topo_state.specs.State.{Topology, table_or_empty}
 use Rattle.topo_state.specs.Tables.{table_in, has_id, are_distinct, tablet_count}
-use Rattle.topo_state.specs.After.{after, after_finalize, table_after, resized, resized_by, created_tables, advanced}
+use Rattle.topo_state.specs.After.{after, after_finalize, table_after, tables_after, members_after, resized, resized_by, created_tables, advanced}
 use Rattle.topo_state.specs.Rules.{rule, growth, growth_by, IsFit}
-use Rattle.topo_state.specs.Sound.{IsTopology, IsState}
+use Rattle.topo_state.specs.Sound.{IsTable, IsTopology}
 use Rattle.topo_state.proofs.TableLemmas.{none_of}
 use Rattle.topo_state.proofs.Passed.{create_passes, finalize_passes, named}
 use Rattle.topo_state.proofs.DistinctLemmas.{untouched, behind_none, distinct_after}
-use Rattle.topo_state.proofs.SoundLemmas.{sound_after}
+use Rattle.topo_state.proofs.SoundLemmas.{sound_after, members_then}
+use Rattle.topo_state.proofs.ChangeLemmas.{stays}
 use borrow.Author.Tests.{ltb-false}
 
 abbrev size : Table → ℕ
@@ -151,3 +153,28 @@ topology_after s c i fit ok sound =
       tablets = tablets_after s c i ok sound.distinct sound.tablets;
       each = sound_after s c i fit ok sound.each;
     }
+
+tables_then : (s : Topology) (c : Command) (i : ℕ) → (after s c i).tables ≡ tables_after c i s.tables
+tables_then s (CreateTable x log2 replicas) i = refl
+tables_then s (Start x tablet leaving pending) i = refl
+tables_then s (Advance session to) i = refl
+tables_then s (SetFence fence) i = stays s.tables
+tables_then s (Join host) i = refl
+tables_then s (Leave host) i = refl
+tables_then s (Resize x kind) i = refl
+tables_then s (FinalizeResize x seq) i = refl
+
+same_topology : (a b : Topology) → b.tables ≡ a.tables → b.members ≡ a.members → IsTopology a → IsTopology b
+same_topology a b t m sound =
+    record {
+      distinct = ap are_distinct t ∙ sound.distinct;
+      few = omega (arith, ap (λ (l : List Table). length l) t, sound.few);
+      tablets = omega (arith, ap tablet_count t, sound.tablets);
+      each = λ id table found.
+          subst (λ (l : List HostId). IsTable l table) (sym m) (sound.each id table (ap (λ (l : List Table). table_in l id) (sym t) ∙ found));
+    }
+
+-- a state with the tables and the members that a command makes
+pub changed_topology : (s : Topology) (c : Command) (i : ℕ) → IsFit c → rule s c ≡ None → IsTopology s → (x : Topology) → x.tables ≡ tables_after c i s.tables → x.members ≡ members_after c s.members → IsTopology x
+changed_topology s c i fit ok sound x tables members =
+    same_topology (after s c i) x (tables ∙ sym (tables_then s c i)) (members ∙ sym (members_then s c i)) (topology_after s c i fit ok sound)
