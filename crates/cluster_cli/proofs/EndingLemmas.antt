@@ -4,7 +4,7 @@ use Rattle.std.specs.Option.{IfSome}
 use Rattle.fault_io.specs.Given.{TakesBytes}
 use Rattle.fault_io.specs.Held.{after_held}
 use Rattle.base_ids.specs.declared.rules.EventRule.{EventRule}
-use Rattle.cluster_history.specs.declared.data.Journal.{Journal}
+use Rattle.path_history.specs.declared.data.Journal.{Journal}
 use Rattle.cluster_cli.specs.Play.{Played, IsPlay, played}
 use Rattle.cluster_cli.specs.Program.{Ending, no_journal, ending_at, play_ending, reading_ending, ending_of, usage_ending, command_ending, is_play, CameTo, Answers}
 use Rattle.cluster_cli.specs.Status.{status_number}

@@ -4,8 +4,8 @@ ghost use Rattle.std.specs.List.{concat};
 ghost use Rattle.fault_io.specs.Counts.{Rose};
 ghost use Rattle.fault_io.specs.Given.{TakesBytes};
 ghost use Rattle.fault_io.specs.Held.{after_held, AddsPart};
-ghost use Rattle.cluster_history.specs.Legal.{IsLegalRun, opening_journal};
-ghost use Rattle.overlap_law.specs.Headline.{IsHeadline};
+ghost use Rattle.path_history.specs.Legal.{IsLegalRun, opening_journal};
+ghost use Rattle.path_law.specs.Headline.{IsHeadline};
 ghost use Rattle.cluster_cli.specs.Play.{Stop, played};
 ghost use Rattle.cluster_cli.specs.Program.{no_journal, refused_line, stopped_lines, play_ending, reading_ending, ending_of, command_ending, usage_ending, is_play, CameTo, CameToError, Answers};
 ghost use Rattle.cluster_cli.specs.Report.{report};
@@ -19,10 +19,10 @@ use crate::schedule::Schedule;
 use crate::status::Status;
 use crate::text::{ParseError, TextRule, parse};
 use base_ids::{EventRule, Items, Line, NoMemory, ReplicaList, TableId, Text};
-use cluster_history::{Journal, Opening};
-use cluster_machine::Machine;
 use fault_io::{ReadError, Sink, Source, WriteFault, read_all, write_all};
-use overlap_law::law_headline;
+use path_history::{Journal, Opening};
+use path_law::law_headline;
+use path_machine::Machine;
 use std::alloc::Global;
 
 /// The words of a command, after the program's name.
