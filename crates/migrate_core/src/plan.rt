@@ -13,12 +13,7 @@ use topo_state::{Command, TopoState};
 /// What is to be done next for the move of a session. A host that is named is the one whose fact is waited for; where
 /// several are, it is the least. Where the table of stages has two ways on, `back` chooses. `Nothing` exactly where no
 /// tablet moves under the session.
-pub fn plan_next(
-    state: &TopoState,
-    evidence: &Evidence,
-    session: Session,
-    back: bool,
-) -> Next
+pub fn plan_next(state: &TopoState, evidence: &Evidence, session: Session, back: bool) -> Next
     ensures { result ≡ plan_next state.now evidence.now.facts session back }
 {
     let Some(transition) = transition_of(state, session) else {
@@ -66,11 +61,7 @@ fn awaited_pull(
 }
 
 /// The host that has still to be cleaned.
-fn awaited_cleanup(
-    evidence: &Evidence,
-    session: Session,
-    transition: Transition,
-) -> Option<HostId>
+fn awaited_cleanup(evidence: &Evidence, session: Session, transition: Transition) -> Option<HostId>
     ensures { result ≡ awaited_cleanup evidence.now.facts session transition }
 {
     unless_told(evidence.has_cleaned(session), cleaned_host(transition))
