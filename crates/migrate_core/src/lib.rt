@@ -7,4 +7,4 @@ mod session;
 
 pub use next::Next;
 pub use plan::{awaited_barrier, plan_next};
-pub use session::transition_of;
+pub use session::{cleaned_host, streamed_host, transition_of};

@@ -49,8 +49,8 @@ pub(crate) fn target(stage: Stage, back: bool) -> Option<Stage>
     }
 }
 
-/// The host that the transition's stage cleans.
-pub(crate) fn cleaned_host(transition: Transition) -> Option<HostId>
+/// The host that the transition's stage cleans: on the way forward the leaving replica's, on the way back the pending one's.
+pub fn cleaned_host(transition: Transition) -> Option<HostId>
     ensures { result ≡ cleaned_at transition.stage transition }
 {
     match transition.stage {
@@ -61,7 +61,7 @@ pub(crate) fn cleaned_host(transition: Transition) -> Option<HostId>
 }
 
 /// The host that the transition's stage streams to.
-pub(crate) fn streamed_host(transition: Transition) -> Option<HostId>
+pub fn streamed_host(transition: Transition) -> Option<HostId>
     ensures { result ≡ streamed_at transition.stage transition }
 {
     match transition.stage {
