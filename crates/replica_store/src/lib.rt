@@ -7,6 +7,7 @@ mod laws;
 mod store;
 mod vec_store;
 
+pub use columns::{insert, raise, rank, start_of, take_out};
 pub use gathering::gather;
 pub use laws::{law_one_list, law_outside, law_range};
 pub use store::{Chunk, Store, Stored, StoredList};
