@@ -2,5 +2,6 @@
 #![tactic(auto)]
 
 mod run;
+mod runs;
 
-pub use run::{Run, find, first_from, range_of};
+pub use runs::{find, put};

@@ -1,0 +1,45 @@
+//! The runs of one table, one for each of its tablets.
+ghost use Rattle.std.specs.Prelude.{◌≡◌, ◌+◌, ◌^◌, ◌<◌, ◌≤◌};
+ghost use Rattle.std.specs.Option.{option_copied};
+ghost use Rattle.token_ring.specs.Ring.{tablet_at};
+ghost use Rattle.replica_store.specs.Cells.{cell_at};
+ghost use Rattle.replica_store.specs.Columns.{put_at};
+ghost use Rattle.run_store.specs.Runs.{run_cells, IsGrouped, least_spare};
+
+use crate::run::{self, Run};
+use base_ids::TableId;
+use cell_merge::Cell;
+use replica_store::Stored;
+use token_ring::{Token, tablet_of};
+
+/// The index of the run of a token.
+fn index_of(log2: u8, token: Token) -> usize
+    requires { log2 ≤ 10 }
+    ensures tablet { result ≡ tablet_at log2 token.value }
+    ensures within { result < 2 ^ log2 }
+{
+    tablet_of(log2, token).0 as usize
+}
+
+/// The cell that is stored for a token.
+pub fn find(table: TableId, log2: u8, runs: &[Run], token: Token) -> Option<&Cell>
+    requires { IsGrouped table log2 runs.now }
+    ensures { option_copied result ≡ cell_at (run_cells table runs.now) table token }
+{
+    let at = index_of(log2, token);
+    let run = &runs[at];
+    run::find(table, run.as_slice(), token)
+}
+
+/// Puts a cell into its place, or keeps the greater one where a cell stands there. Only its run is changed.
+pub fn put(table: TableId, log2: u8, runs: &mut Vec<Run>, put: Stored)
+    requires runs { IsGrouped table log2 runs.old.items }
+    requires room { 1 ≤ least_spare runs.old.items }
+    ensures runs { IsGrouped table log2 runs.new.items }
+    ensures cells { run_cells table runs.new.items ≡ put_at (run_cells table runs.old.items) (table, put) }
+    ensures room { least_spare runs.old.items ≤ least_spare runs.new.items + 1 }
+{
+    let at = index_of(log2, put.token);
+    let run = &mut runs[at];
+    run.put(table, put);
+}
