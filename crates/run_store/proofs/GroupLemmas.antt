@@ -28,7 +28,7 @@ pub tablet_mono : (log2 a b : ℕ) → a ≤ b → a / width log2 ≤ b / width 
 tablet_mono log2 a b below = le-div (a / width log2) b (width log2) (width_pos log2) (let at_most : a / width log2 * width log2 ≤ a = div-mul-le_self a (width log2) in omega arith)
 
 -- of one table, the lower tablet comes first
-lower_first : (t : TableId) (log2 : ℕ) (a b : Token) → tablet_at log2 a.value < tablet_at log2 b.value → rank t a < rank t b
+pub lower_first : (t : TableId) (log2 : ℕ) (a b : Token) → tablet_at log2 a.value < tablet_at log2 b.value → rank t a < rank t b
 lower_first t log2 a b lower =
     elim (cases_lt (place a.value) (place b.value)) [
       | inl below ↦ omega arith
@@ -92,7 +92,7 @@ cell_at-later_runs t log2 first k (run ∷ runs) are lower =
     let other : tablet_at log2 k.value ≢ first = omega arith in
     cell_at-other_run t log2 first k run.stored (run_cells t runs) are.0.own other ∙ cell_at-later_runs t log2 (first + 1) k runs are.1 (omega arith)
 
-cell_at-append_none : (xs ys : Cells) (t : TableId) (k : Token) → cell_at ys t k ≡ None → cell_at (xs ++ ys) t k ≡ cell_at xs t k
+pub cell_at-append_none : (xs ys : Cells) (t : TableId) (k : Token) → cell_at ys t k ≡ None → cell_at (xs ++ ys) t k ≡ cell_at xs t k
 cell_at-append_none [] ys t k none = none
 cell_at-append_none (x ∷ xs) ys t k none = ap (cond (is_same x.0 x.1.token t k) (Some x.1.cell)) (cell_at-append_none xs ys t k none)
 

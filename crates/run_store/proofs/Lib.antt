@@ -1,2 +1,4 @@
 pub mod RunLemmas
 pub mod GroupLemmas
+pub mod ChunkLemmas
+pub mod LoopLemmas

@@ -40,6 +40,11 @@ pub record IsGrouped (table : TableId) (log2 : ℕ) (runs : List Filled) : Type 
   pub count : length runs ≡ 2 ^ log2
   pub each : AreRuns table log2 0 runs
 
+-- each run is in order
+abbrev pub AreOrdered : TableId → List Filled → Type 0
+AreOrdered table [] = Unit {0}
+AreOrdered table (run ∷ runs) = IsOrdered (of_table table run.stored) × AreOrdered table runs
+
 -- how many cells each run takes without taking memory, and 2^64 where there is no run
 abbrev pub least_spare : List Filled → ℕ
 least_spare [] = 2 ^ 64

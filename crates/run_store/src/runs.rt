@@ -1,19 +1,19 @@
 //! The runs of one table, one for each of its tablets.
-ghost use Rattle.std.specs.Prelude.{◌≡◌, ◌+◌, ◌^◌, ◌<◌, ◌≤◌};
+ghost use Rattle.std.specs.Prelude.{◌≡◌, ◌+◌, ◌^◌, ◌<◌, ◌≤◌, map, OnOk};
 ghost use Rattle.std.specs.Option.{option_copied};
 ghost use Rattle.token_ring.specs.Ring.{tablet_at};
-ghost use Rattle.replica_store.specs.Cells.{cell_at};
+ghost use Rattle.replica_store.specs.Cells.{cell_at, outside};
 ghost use Rattle.replica_store.specs.Columns.{put_at};
 ghost use Rattle.run_store.specs.Runs.{run_cells, IsGrouped, least_spare};
 
 use crate::run::{self, Run};
-use base_ids::TableId;
+use base_ids::{NoMemory, TableId};
 use cell_merge::Cell;
 use replica_store::Stored;
-use token_ring::{Token, tablet_of};
+use token_ring::{Token, TokenRange, tablet_of};
 
 /// The index of the run of a token.
-fn index_of(log2: u8, token: Token) -> usize
+pub fn index_of(log2: u8, token: Token) -> usize
     requires { log2 ≤ 10 }
     ensures tablet { result ≡ tablet_at log2 token.value }
     ensures within { result < 2 ^ log2 }
@@ -42,4 +42,32 @@ pub fn put(table: TableId, log2: u8, runs: &mut Vec<Run>, put: Stored)
     let at = index_of(log2, put.token);
     let run = &mut runs[at];
     run.put(table, put);
+}
+
+/// Makes room for `n` more cells in each run. `NoMemory` leaves the cells, and the room is not less.
+pub fn reserve(runs: &mut Vec<Run>, n: usize) -> Result<(), NoMemory>
+    ensures same { map (λ run. run.stored) runs.new.items ≡ map (λ run. run.stored) runs.old.items }
+    ensures ok { OnOk result (n ≤ least_spare runs.new.items) }
+    ensures room { least_spare runs.old.items ≤ least_spare runs.new.items }
+{
+    for at in 0..runs.len() {
+        let run = &mut runs[at];
+        run.reserve(n)?;
+    }
+    Ok(())
+}
+
+/// Takes out the cells of a range, of which there are none but in the runs from its first token's to its last token's.
+pub fn drop_range(table: TableId, log2: u8, runs: &mut Vec<Run>, range: TokenRange)
+    requires { IsGrouped table log2 runs.old.items }
+    ensures runs { IsGrouped table log2 runs.new.items }
+    ensures cells { run_cells table runs.new.items ≡ outside (run_cells table runs.old.items) table range }
+    ensures room { least_spare runs.old.items ≤ least_spare runs.new.items }
+{
+    let from = index_of(log2, range.first);
+    let until = index_of(log2, range.last) + 1;
+    for at in from..until {
+        let run = &mut runs[at];
+        run.drop_range(table, range);
+    }
 }
