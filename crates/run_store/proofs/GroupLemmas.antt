@@ -50,7 +50,7 @@ before_runs t log2 first a [] lower are = tt
 before_runs t log2 first a (run ∷ runs) lower are =
     IsAfter-append (rank t a) (of_table t run.stored) (run_cells t runs) (before_run t log2 first a run.stored lower are.0.own) (before_runs t log2 (first + 1) a runs (omega arith) are.1)
 
-IsOrdered-append : (t : TableId) (log2 first : ℕ) (stored : List Stored) (runs : List Filled) → IsOrdered (of_table t stored) → IsOfTablet log2 first (of_table t stored) → AreRuns t log2 (first + 1) runs → IsOrdered (run_cells t runs) → IsOrdered (of_table t stored ++ run_cells t runs)
+pub IsOrdered-append : (t : TableId) (log2 first : ℕ) (stored : List Stored) (runs : List Filled) → IsOrdered (of_table t stored) → IsOfTablet log2 first (of_table t stored) → AreRuns t log2 (first + 1) runs → IsOrdered (run_cells t runs) → IsOrdered (of_table t stored ++ run_cells t runs)
 IsOrdered-append t log2 first [] runs ordered own are later = later
 IsOrdered-append t log2 first (s ∷ rest) runs ordered own are later =
     (IsAfter-append (rank t s.token) (of_table t rest) (run_cells t runs) ordered.0 (before_runs t log2 (first + 1) s.token runs (let same = own.0 in omega arith) are), IsOrdered-append t log2 first rest runs ordered.1 own.1 are later)

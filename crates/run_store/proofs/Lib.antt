@@ -2,3 +2,4 @@ pub mod RunLemmas
 pub mod GroupLemmas
 pub mod ChunkLemmas
 pub mod LoopLemmas
+pub mod RegroupLemmas

@@ -2,8 +2,9 @@
 #![tactic(auto)]
 
 mod chunks;
+mod regrouping;
 mod run;
 mod runs;
+mod table;
 
-pub use chunks::chunk;
-pub use runs::{drop_range, find, put, reserve};
+pub use table::TableRuns;

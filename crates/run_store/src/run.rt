@@ -30,6 +30,16 @@ impl Model for Run {
 }
 
 impl Run {
+    /// A run of these cells.
+    pub fn copied(alloc: Global, cells: &[Stored]) -> Result<Run, NoMemory>
+        ensures { IfOk result (λ run. run.stored ≡ cells.now) }
+    {
+        match Vec::from_slice(alloc, cells) {
+            Ok(stored) => Ok(Run { stored }),
+            Err(_) => Err(NoMemory),
+        }
+    }
+
     /// A run of these cells and then of those.
     pub fn joined(alloc: Global, first: &[Stored], second: &[Stored]) -> Result<Run, NoMemory>
         ensures { IfOk result (λ run. run.stored ≡ first.now ++ second.now) }

@@ -1,15 +1,17 @@
 //! The runs of one table, one for each of its tablets.
-ghost use Rattle.std.specs.Prelude.{◌≡◌, ◌+◌, ◌^◌, ◌<◌, ◌≤◌, map, OnOk};
+ghost use Rattle.std.specs.Prelude.{◌≡◌, ◌+◌, ◌^◌, ◌<◌, ◌≤◌, [], ◌∷◌, ◌++◌, map, IfOk, OnOk};
 ghost use Rattle.std.specs.Option.{option_copied};
+ghost use Rattle.base_ids.specs.declared.ids.TableId.{TableId};
 ghost use Rattle.token_ring.specs.Ring.{tablet_at};
-ghost use Rattle.replica_store.specs.Cells.{cell_at, outside};
+ghost use Rattle.replica_store.specs.Cells.{IsOrdered, cell_at, outside};
 ghost use Rattle.replica_store.specs.Columns.{put_at};
-ghost use Rattle.run_store.specs.Runs.{run_cells, IsGrouped, least_spare};
+ghost use Rattle.run_store.specs.Runs.{of_table, run_cells, IsGrouped, least_spare};
 
 use crate::run::{self, Run};
 use base_ids::{NoMemory, TableId};
 use cell_merge::Cell;
 use replica_store::Stored;
+use std::alloc::Global;
 use token_ring::{Token, TokenRange, tablet_of};
 
 /// The index of the run of a token.
@@ -19,6 +21,28 @@ pub fn index_of(log2: u8, token: Token) -> usize
     ensures within { result < 2 ^ log2 }
 {
     tablet_of(log2, token).0 as usize
+}
+
+/// One run of all cells of a table.
+pub fn single(alloc: Global, cells: &[Stored]) -> Result<Vec<Run>, NoMemory>
+    ensures grouped { IfOk result (λ runs. (table : TableId)
+        → IsOrdered (of_table table cells.now) → IsGrouped table 0 runs.items) }
+    ensures cells { IfOk result (λ runs. (table : TableId) → run_cells table runs.items ≡ of_table table cells.now) }
+{
+    let run = Run::copied(alloc, cells)?;
+    let mut runs = Vec::new(alloc);
+    push(&mut runs, run)?;
+    Ok(runs)
+}
+
+/// Adds a run at the end.
+pub fn push(runs: &mut Vec<Run>, run: Run) -> Result<(), NoMemory>
+    ensures { OnOk result (runs.new.items ≡ runs.old.items ++ run ∷ []) }
+{
+    match runs.push(run) {
+        Ok(()) => Ok(()),
+        Err(_) => Err(NoMemory),
+    }
 }
 
 /// The cell that is stored for a token.
