@@ -2,6 +2,7 @@ pub mod TableLemmas
 pub mod Passed
 pub mod ChangeLemmas
 pub mod CountLemmas
+pub mod VersionLemmas
 pub mod DistinctLemmas
 pub mod SoundLemmas
 pub mod AdvanceLemmas
