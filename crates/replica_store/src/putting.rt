@@ -10,9 +10,9 @@ use base_ids::TableId;
 
 /// Puts one cell of a table. Takes no memory.
 pub fn put_one<S: Store>(store: &mut S, table: TableId, stored: &Stored)
-    requires ordered { IsOrdered (S.cells store.old) }
-    requires room { 1 ≤ S.spare store.old }
-    ensures cells { S.cells store.new ≡ put_at (S.cells store.old) (table, stored.now) }
+    requires { 1 ≤ S.spare store.old }
+    ensures cells { IsOrdered (S.cells store.old)
+        → S.cells store.new ≡ put_at (S.cells store.old) (table, stored.now) }
     ensures ordered { IsOrdered (S.cells store.new) }
     ensures room { S.spare store.old ≤ S.spare store.new + 1 }
     ensures same_runs { (t : TableId) → S.runs store.new t ≡ S.runs store.old t }
@@ -22,10 +22,10 @@ pub fn put_one<S: Store>(store: &mut S, table: TableId, stored: &Stored)
 
 /// Puts cells of a table, one after the other. Takes no memory.
 pub fn put_all<S: Store>(store: &mut S, table: TableId, cells: &[Stored])
-    requires ordered { IsOrdered (S.cells store.old) }
-    requires room { length cells.now ≤ S.spare store.old }
-    ensures cells { S.cells store.new ≡ cells_with (S.cells store.old) table cells.now }
-    ensures ordered { IsOrdered (S.cells store.new) }
+    requires { length cells.now ≤ S.spare store.old }
+    ensures cells { IsOrdered (S.cells store.old)
+        → S.cells store.new ≡ cells_with (S.cells store.old) table cells.now }
+    ensures ordered { IsOrdered (S.cells store.old) → IsOrdered (S.cells store.new) }
     ensures same_runs { (t : TableId) → S.runs store.new t ≡ S.runs store.old t }
 {
     'putting: for stored in cells {
