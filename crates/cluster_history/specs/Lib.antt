@@ -1,0 +1,10 @@
+pub mod Messages
+pub mod Openings
+pub mod History
+pub mod Topology
+pub mod Moves
+pub mod Requests
+pub mod Held
+pub mod Rules
+pub mod Outputs
+pub mod Legal

@@ -1,0 +1,6 @@
+pub mod TableLemmas
+pub mod Passed
+pub mod DistinctLemmas
+pub mod SoundLemmas
+pub mod AdvanceLemmas
+pub mod ChangedLemmas

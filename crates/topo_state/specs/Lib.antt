@@ -1,0 +1,10 @@
+pub mod Tables
+pub mod State
+pub mod Rules
+pub mod After
+pub mod Views
+pub mod Lists
+pub mod Sessions
+pub mod Sound
+pub mod Openings
+pub mod Changes
