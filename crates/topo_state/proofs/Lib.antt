@@ -6,3 +6,4 @@ pub mod DistinctLemmas
 pub mod SoundLemmas
 pub mod AdvanceLemmas
 pub mod ChangedLemmas
+mod MoveLemmas

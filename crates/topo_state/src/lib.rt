@@ -6,10 +6,12 @@ mod changes;
 mod command;
 mod data;
 mod judge;
+mod moves;
 mod replicas;
 mod state;
 mod tables;
 
 pub use command::{Command, Rule};
 pub use data::{Resize, ResizeKind, Table, TableList};
+pub use moves::{Move, has_split, move_of};
 pub use state::TopoState;
