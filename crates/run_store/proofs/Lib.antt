@@ -1,0 +1,5 @@
+pub mod RunLemmas
+pub mod GroupLemmas
+pub mod ChunkLemmas
+pub mod LoopLemmas
+pub mod RegroupLemmas

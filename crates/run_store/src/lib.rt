@@ -1,0 +1,10 @@
+//! A store that keeps the cells of a table in sorted runs, one for each tablet.
+#![tactic(auto)]
+
+mod chunks;
+mod regrouping;
+mod run;
+mod runs;
+mod table;
+
+pub use table::TableRuns;
