@@ -1,3 +1,9 @@
+pub mod FrameLemmas
+pub mod MessageLemmas
+pub mod LogLemmas
+pub mod WithinLemmas
+pub mod HeldLemmas
+pub mod StayLemmas
 mod Plays
 mod Requests_are_decided
 mod The_log_and_its_versions
