@@ -1,11 +1,12 @@
 -- Worked journals: lines that are played one after the other from an opening, each an event or a shorthand for events
 -- that are chosen from what was played so far, and what a report tells of the outputs.
 use Rattle.std.specs.List.{list_any}
-use Rattle.std.specs.Prelude.{Bool, List, None, Option, Some, [], false, filter, if◌then◌else◌, length, map, nat_lt, pos, slice_index_or, suc, true, zero, ℕ, ℤ, ◌&&◌, ◌++◌, ◌+◌, ◌-◌, ◌/◌, ◌||◌, ◌∷◌}
+use Rattle.std.specs.Prelude.{Bool, List, None, Option, Some, [], false, filter, if◌then◌else◌, length, map, nat_le, nat_lt, pos, slice_index_or, suc, true, zero, ℕ, ℤ, ◌&&◌, ◌++◌, ◌+◌, ◌-◌, ◌/◌, ◌||◌, ◌∷◌}
 use Rattle.barrier_core.specs.declared.data.What.{What}
 use Rattle.barrier_core.specs.declared.data.What.TheVariants.{Clean as CleanOf, Done, Drain, Fence as FenceAt, Ready}
 use Rattle.base_ids.specs.Replicas.{has_host}
 use Rattle.base_ids.specs.declared.ids.Actor.{Actor}
+use Rattle.base_ids.specs.declared.ids.Actor.TheVariants.{Host as ByHost, Lane as ByLane, Topo as ByTopo}
 use Rattle.base_ids.specs.declared.ids.HostId.{HostId}
 use Rattle.base_ids.specs.declared.ids.LaneId.{LaneId}
 use Rattle.base_ids.specs.declared.ids.MsgRef.{MsgRef}
@@ -30,7 +31,7 @@ use Rattle.topo_state.specs.declared.command.Command.{Command}
 use Rattle.topo_state.specs.declared.command.Command.TheVariants.{Advance, CreateTable, SetFence, Start}
 use Rattle.topo_state.specs.declared.data.Table.{Table}
 use Rattle.cluster_history.specs.Held.{has_done, held_cell, held_cells}
-use Rattle.cluster_history.specs.History.{History}
+use Rattle.cluster_history.specs.History.{History, actor_of}
 use Rattle.cluster_history.specs.Legal.{broken_rule, entry_of}
 use Rattle.cluster_history.specs.Moves.{Move, cleaned_host, is_split_by, move_of}
 use Rattle.cluster_history.specs.Requests.{Request, is_live, next_op, numbers_below, request_at}
@@ -108,23 +109,56 @@ four = opening_of 4 (table_of 1 0 (on 0 ∷ on 1 ∷ on 2 ∷ []) ∷ [])
 
 -- ---- what was played
 
--- the rule that the last event broke, what was played before it, and the numbers of the entries that were marked
+-- why an event could not come next: it names what is not in the opening, or it breaks a rule
+pub data Fault : Type 0 where
+  Unfit : Fault
+  Breaks : EventRule → Fault
+
+-- why the last event could not come next, what was played before it, and the numbers of the entries that were marked
 pub record Play : Type 0 where
-  pub fault : Option EventRule
+  pub fault : Option Fault
   pub history : History
   pub marks : List ℕ
 
 abbrev pub nothing : Play
 nothing = record { fault = None; history = []; marks = [] }
 
--- one event more, where neither it nor an earlier one breaks a rule
-abbrev pub added : Opening → Event → Play → Option EventRule → Play
-added opening event played None = record played { history = entry_of opening played.history event ∷ played.history }
-added opening event played (Some rule) = record played { fault = Some rule }
+-- what an event names is in the opening
+abbrev pub has_host_in : Opening → HostId → Bool
+has_host_in opening host = nat_lt host.0 opening.hosts
 
-abbrev pub played_on : Opening → Event → Play → Option EventRule → Play
-played_on opening event played None = added opening event played (broken_rule opening played.history event)
-played_on opening event played (Some rule) = played
+abbrev pub has_part : Opening → Actor → Bool
+has_part opening (ByLane lane) = has_host_in opening lane.host && nat_lt lane.lane opening.lanes
+has_part opening (ByHost host) = has_host_in opening host
+has_part opening (ByTopo host) = has_host_in opening host
+
+abbrev pub is_fit : Command → Bool
+is_fit (CreateTable id log2 replicas) = nat_le log2 10 && (nat_le 1 (length replicas) && nat_le (length replicas) 8)
+is_fit command = true
+
+abbrev pub is_fit_event : Opening → Event → Bool
+is_fit_event opening (Ask topo host what) = has_host_in opening host
+is_fit_event opening (Propose topo command) = is_fit command
+is_fit_event opening event = true
+
+abbrev pub fits : Opening → Event → Bool
+fits opening event = has_part opening (actor_of event) && is_fit_event opening event
+
+-- one event more, where neither it nor an earlier one was at fault
+abbrev pub with_entry : Opening → Event → Play → Play
+with_entry opening event played = record played { history = entry_of opening played.history event ∷ played.history }
+
+abbrev pub judged_by : Opening → Event → Play → Option EventRule → Play
+judged_by opening event played None = with_entry opening event played
+judged_by opening event played (Some rule) = record played { fault = Some (Breaks rule) }
+
+abbrev pub fitted_by : Opening → Event → Play → Bool → Play
+fitted_by opening event played true = judged_by opening event played (broken_rule opening played.history event)
+fitted_by opening event played false = record played { fault = Some Unfit }
+
+abbrev pub played_on : Opening → Event → Play → Option Fault → Play
+played_on opening event played None = fitted_by opening event played (fits opening event)
+played_on opening event played (Some fault) = played
 
 -- ---- lines
 
@@ -368,15 +402,15 @@ told_in (entry ∷ history) later = told_in history (filter (is_told_of entry.ev
 abbrev pub told : Play → List Output
 told played = told_in played.history []
 
--- the rule that a play ends with, or none, and what it tells
-abbrev pub report : Play → Option EventRule × List Output
+-- the fault that a play ends with, or none, and what it tells
+abbrev pub report : Play → Option Fault × List Output
 report played = (played.fault, told played)
 
--- whether lines before a last one break a rule, and the rule that the last one breaks
-abbrev pub faults : Opening → Line → Play → Option EventRule × Option EventRule
+-- the fault of lines before a last one, and that of the last one
+abbrev pub faults : Opening → Line → Play → Option Fault × Option Fault
 faults opening line played = (played.fault, (run opening line played).fault)
 
-abbrev pub refusal : Opening → List Line → Line → Option EventRule × Option EventRule
+abbrev pub refusal : Opening → List Line → Line → Option Fault × Option Fault
 refusal opening before line = faults opening line (play opening before)
 
 -- what a host holds at tokens of table 1, and how many cells it holds in all
