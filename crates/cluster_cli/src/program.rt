@@ -19,10 +19,10 @@ use crate::schedule::Schedule;
 use crate::status::Status;
 use crate::text::{ParseError, TextRule, parse};
 use base_ids::{EventRule, Items, Line, NoMemory, ReplicaList, TableId, Text};
-use path_history::{Journal, Opening};
-use path_machine::Machine;
 use fault_io::{ReadError, Sink, Source, WriteFault, read_all, write_all};
+use path_history::{Journal, Opening};
 use path_law::law_headline;
+use path_machine::Machine;
 use std::alloc::Global;
 
 /// The words of a command, after the program's name.

@@ -11,10 +11,10 @@ mod rules;
 mod serving;
 pub mod step;
 
+pub use machine::Machine;
 pub use path_history::{
     Entry, EntryList, Event, Journal, Message, Opening, Operation, Output, OutputList,
 };
-pub use machine::Machine;
 pub use step::StepError;
 
 #[cfg(test)]

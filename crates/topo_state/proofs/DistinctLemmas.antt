@@ -49,7 +49,7 @@ distinct_behind (t ∷ rest) new d h =
     (not_false (list_any (has_id t.id) (rest ++ new ∷ [])) (none_behind t.id rest new alone apart))
     (distinct_behind rest new (and_right (not (list_any (has_id t.id) rest)) (are_distinct rest) d) (or_right (eqb new.id.0 t.id.0) (list_any (has_id new.id) rest) h))
 
-behind_none : (tables : List Table) → tables ++ [] ≡ tables
+pub behind_none : (tables : List Table) → tables ++ [] ≡ tables
 behind_none [] = refl
 behind_none (t ∷ rest) = ap (λ (l : List Table). t ∷ l) (behind_none rest)
 
@@ -71,7 +71,7 @@ distinct_after s (Resize x kind) i ok d = mapped_distinct (Resize x kind) i s.ta
 distinct_after s (FinalizeResize x seq) i ok d = mapped_distinct (FinalizeResize x seq) i s.tables d
 
 -- With distinct numbers a change of each table of a number is a write at its one place.
-untouched : (g : Table → Table) (id : TableId) → ((t : Table) → eqb id.0 t.id.0 ≡ false → g t ≡ t) → (tables : List Table) → list_any (has_id id) tables ≡ false → map g tables ≡ tables
+pub untouched : (g : Table → Table) (id : TableId) → ((t : Table) → eqb id.0 t.id.0 ≡ false → g t ≡ t) → (tables : List Table) → list_any (has_id id) tables ≡ false → map g tables ≡ tables
 untouched g id same [] h = refl
 untouched g id same (t ∷ rest) h =
     ap (λ (x : Table). x ∷ map g rest) (same t (or_left (eqb id.0 t.id.0) (list_any (has_id id) rest) h)) ∙

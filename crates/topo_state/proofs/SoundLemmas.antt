@@ -255,7 +255,7 @@ created_sound s (Leave host) fit ok id t e = cc e
 created_sound s (Resize x kind) fit ok id t e = cc e
 created_sound s (FinalizeResize x seq) fit ok id t e = cc e
 
-members_then : (s : Topology) (c : Command) (i : ℕ) → (after s c i).members ≡ members_after c s.members
+pub members_then : (s : Topology) (c : Command) (i : ℕ) → (after s c i).members ≡ members_after c s.members
 members_then s (CreateTable x log2 replicas) i = refl
 members_then s (Start x tablet leaving pending) i = refl
 members_then s (Advance session to) i = refl

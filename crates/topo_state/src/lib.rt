@@ -2,6 +2,7 @@
 #![tactic(auto)]
 
 mod advance;
+mod changes;
 mod command;
 mod data;
 mod judge;

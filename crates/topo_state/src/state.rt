@@ -1,9 +1,11 @@
-ghost use Rattle.std.specs.Prelude.{◌≡◌, None, IfOk, option_copied, MatchResult, Some};
+ghost use Rattle.std.specs.Prelude.{◌≡◌, ◌<◌, ◌-◌, ◌^◌, None, OnOk, OnErr, IfOk, option_copied, MatchResult, Some};
 ghost use Rattle.topo_state.specs.Tables.{table_in};
 ghost use Rattle.topo_state.specs.Rules.{rule, IsFit};
+ghost use Rattle.topo_state.specs.After.{after};
 ghost use Rattle.topo_state.specs.Sound.{IsTopology};
 ghost use Rattle.topo_state.specs.Openings.{first_state, IsOpening};
 
+use crate::changes::{change_tables, members_after};
 use crate::command::{Command, Rule};
 use crate::data::{Table, TableList};
 use crate::judge::first_broken;
@@ -11,6 +13,7 @@ use crate::tables::{clones, table_in};
 use base_ids::{HostId, HostList, NoMemory, TableId, Version};
 use std::alloc::Global;
 use std::marker::Model;
+use std::mem;
 
 /// The state of the topology: its hosts and members, its version and fence, and its tables.
 #[derive(Debug, Drop)]
@@ -142,5 +145,25 @@ impl TopoState {
             None => Ok(()),
             Some(rule) => Err(rule),
         }
+    }
+
+    /// Carries out a command that is judged well, as the entry of this index of the log. `NoMemory` leaves the state
+    /// as it was.
+    pub fn apply(&mut self, alloc: Global, command: &Command, index: u64) -> Result<(), NoMemory>
+        requires fit { IsFit command.now }
+        requires judged { rule self.old command.now ≡ None }
+        requires version { self.old.version.0 < 2 ^ 64 - 1 }
+        ensures ok { OnOk result (self.new ≡ after self.old command.now index) }
+        ensures err { OnErr result (self.new ≡ self.old) }
+    {
+        if let Command::SetFence(fence) = command {
+            self.fence = *fence;
+            return Ok(());
+        }
+        let members = members_after(alloc, self.members.as_slice(), command)?;
+        change_tables(alloc, &mut self.tables, command, index)?;
+        self.before = mem::replace(&mut self.members, members);
+        self.version = Version(self.version.0 + 1);
+        Ok(())
     }
 }
