@@ -12,7 +12,7 @@ use Rattle.tablet_map.specs.declared.tablet.Transition.{Transition}
 use Rattle.std.specs.Prelude.{IfSome}
 use Rattle.tablet_map.specs.Tablets.{is_moving}
 use Rattle.topo_state.specs.declared.command.Command.{Command}
-use Rattle.topo_state.specs.Sound.{IsState}
+use Rattle.topo_state.specs.Sound.{IsTopology}
 use Rattle.topo_state.specs.State.{Topology}
 use Rattle.topo_state.specs.Tables.{at_token}
 use Rattle.topo_state.specs.Views.{view}
@@ -38,7 +38,7 @@ pub record IsEntered (first : Topology) (log : List Command) (session : ℕ) (id
 pub shown_numbered : (first : Topology) → IsStill first → (log : List Command) → IsLegalLog first log → (last : ℕ) → last ≤ length log → (S : ℕ) (id : TableId) (token : ℤ) (stage : Stage) → shown_stage S (view (state_at first log last) id token) ≡ Some stage → (1 ≤ S) × (S ≤ last)
 shown_numbered first still log legal last within S id token stage h = (start_of first still log legal last within S id token stage h).numbered
 
-entered_step : (first : Topology) → IsStill first → IsState first → (c : Command) (log : List Command) → IsLegalLog first (c ∷ log) → (S : ℕ) (id : TableId) (token : Token) (stage : Stage) (new : Tablet) → (stage ≡ AllowWriteBothReadOld → ⊥) → ((h : shown_stage S (view (state_of first log) id token.value) ≡ Some stage) → IsEntered first log S id token stage) → CameFrom (length log + 1) (view (state_of first log) id token.value) new → stage_of S new.transition ≡ Some stage → IsEntered first (c ∷ log) S id token stage
+entered_step : (first : Topology) → IsStill first → IsTopology first → (c : Command) (log : List Command) → IsLegalLog first (c ∷ log) → (S : ℕ) (id : TableId) (token : Token) (stage : Stage) (new : Tablet) → (stage ≡ AllowWriteBothReadOld → ⊥) → ((h : shown_stage S (view (state_of first log) id token.value) ≡ Some stage) → IsEntered first log S id token stage) → CameFrom (length log + 1) (view (state_of first log) id token.value) new → stage_of S new.transition ≡ Some stage → IsEntered first (c ∷ log) S id token stage
 entered_step first still state c log legal S id token stage new not_first before (Began e rests) h =
     let none : stage_of S new.transition ≡ None = ap (stage_of S) rests in cc
 entered_step first still state c log legal S id token stage new not_first before (Went old v (Regroups same was now)) h =
@@ -81,7 +81,7 @@ entered_step first still state c log legal S id token stage new not_first before
       | false ↦ λ p k. cc k
     ] refl now
 
-entered_shown : (first : Topology) → IsStill first → IsState first → (c : Command) (log : List Command) → IsLegalLog first (c ∷ log) → (S : ℕ) (id : TableId) (token : Token) (stage : Stage) (o : Option Tablet) → (stage ≡ AllowWriteBothReadOld → ⊥) → ((h : shown_stage S (view (state_of first log) id token.value) ≡ Some stage) → IsEntered first log S id token stage) → view (state_of first (c ∷ log)) id token.value ≡ o → shown_stage S o ≡ Some stage → IsEntered first (c ∷ log) S id token stage
+entered_shown : (first : Topology) → IsStill first → IsTopology first → (c : Command) (log : List Command) → IsLegalLog first (c ∷ log) → (S : ℕ) (id : TableId) (token : Token) (stage : Stage) (o : Option Tablet) → (stage ≡ AllowWriteBothReadOld → ⊥) → ((h : shown_stage S (view (state_of first log) id token.value) ≡ Some stage) → IsEntered first log S id token stage) → view (state_of first (c ∷ log)) id token.value ≡ o → shown_stage S o ≡ Some stage → IsEntered first (c ∷ log) S id token stage
 entered_shown first still state c log legal S id token stage None not_first before v h = cc h
 entered_shown first still state c log legal S id token stage (Some new) not_first before v h =
     entered_step first still state c log legal S id token stage new not_first before (came_from (state_of first log) c (length log + 1) legal.0 (sound_log first state log legal.1) id token new v) h
@@ -98,7 +98,7 @@ still_stage : (S : ℕ) (first : Topology) → IsStill first → (id : TableId) 
 still_stage S first still id token stage h = still_view S (view first id token.value) stage (still id (at_token token.value)) h
 
 -- a stage but the first is entered from one before it
-pub entered : (first : Topology) → IsStill first → IsState first → (log : List Command) → IsLegalLog first log → (S : ℕ) (id : TableId) (token : Token) (stage : Stage) → (stage ≡ AllowWriteBothReadOld → ⊥) → shown_stage S (view (state_of first log) id token.value) ≡ Some stage → IsEntered first log S id token stage
+pub entered : (first : Topology) → IsStill first → IsTopology first → (log : List Command) → IsLegalLog first log → (S : ℕ) (id : TableId) (token : Token) (stage : Stage) → (stage ≡ AllowWriteBothReadOld → ⊥) → shown_stage S (view (state_of first log) id token.value) ≡ Some stage → IsEntered first log S id token stage
 entered first still state [] legal S id token stage not_first h = absurd (still_stage S first still id token stage h)
 entered first still state (c ∷ log) legal S id token stage not_first h =
     entered_shown first still state c log legal S id token stage (view (state_of first (c ∷ log)) id token.value) not_first (λ k. entered first still state log legal.1 S id token stage not_first k) refl h

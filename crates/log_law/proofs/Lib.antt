@@ -19,3 +19,4 @@ pub mod Turns
 pub mod TurnLemmas
 pub mod FrameLemmas
 pub mod PairLemmas
+pub mod LawLemmas

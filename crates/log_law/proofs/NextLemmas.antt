@@ -9,7 +9,7 @@ use Rattle.tablet_map.proofs.Counts.{length_same}
 use Rattle.tablet_map.proofs.Replaced.{length-replaced}
 use Rattle.topo_state.specs.declared.data.Table.{Table}
 use Rattle.topo_state.specs.declared.command.Command.{Command}
-use Rattle.topo_state.specs.Sound.{IsState}
+use Rattle.topo_state.specs.Sound.{IsTopology}
 use Rattle.topo_state.specs.State.{Topology}
 use Rattle.topo_state.specs.Tables.{at_token, tablet_of}
 use Rattle.topo_state.specs.Views.{view}
@@ -19,7 +19,7 @@ use Rattle.log_law.specs.Laws.{IsNextView}
 use Rattle.log_law.specs.Stages.{view_with}
 use Rattle.log_law.specs.Steps.{Advances, Finishes, GoesOn, Regroups, Reverts, Starts, Stays, ViewStep}
 use Rattle.log_law.proofs.RisingLemmas.{not_below}
-use Rattle.log_law.proofs.StateLemmas.{sound_log, sound_with}
+use Rattle.log_law.proofs.StateLemmas.{sound_log, topology_with}
 use Rattle.log_law.proofs.StepLemmas.{view_step}
 use Rattle.log_law.proofs.VersionLemmas.{known, latest, only_is, or_later_some, version_then, with_below}
 use Rattle.log_law.proofs.ViewLemmas.{seen_at, view_sound, view_with_of}
@@ -29,7 +29,7 @@ pub record GoesOnSome (old : Tablet) (view : Option Tablet) : Type 0 where
   pub index : ℕ
   pub on : GoesOn index old view
 
-pub version_step : (first : Topology) → IsState first → (log : List Command) → IsLegalLog first log → (v : ℕ) (x y : Topology) → state_with first log v ≡ Some x → state_with first log (v + 1) ≡ Some y → (id : TableId) (token : Token) (old : Tablet) → view x id token.value ≡ Some old → GoesOnSome old (view y id token.value)
+pub version_step : (first : Topology) → IsTopology first → (log : List Command) → IsLegalLog first log → (v : ℕ) (x y : Topology) → state_with first log v ≡ Some x → state_with first log (v + 1) ≡ Some y → (id : TableId) (token : Token) (old : Tablet) → view x id token.value ≡ Some old → GoesOnSome old (view y id token.value)
 version_step first state [] legal v x y p q id token old shown =
     (let a = only_is v first x p in let b = only_is (v + 1) first y q in absurd (omega (arith, a.1, b.1)))
 version_step first state (c ∷ log) legal v x y p q id token old shown =
@@ -78,14 +78,14 @@ step_size i old new a b (Finishes t was at e) = ap (λ (x : Tablet). length x.re
 step_size i old new a b (Reverts t was at e) = ap (λ (x : Tablet). length x.replicas) e
 
 -- the next view, of a first state that is sound
-pub next_view : (first : Topology) → IsState first → (log : List Command) → IsLegalLog first log → (v : ℕ) → v + 1 ≤ (state_of first log).version.0 → (id : TableId) (token : Token) (old : Tablet) → view_with first log v id token.value ≡ Some old → IsNextView old (view_with first log (v + 1) id token.value)
+pub next_view : (first : Topology) → IsTopology first → (log : List Command) → IsLegalLog first log → (v : ℕ) → v + 1 ≤ (state_of first log).version.0 → (id : TableId) (token : Token) (old : Tablet) → view_with first log v id token.value ≡ Some old → IsNextView old (view_with first log (v + 1) id token.value)
 next_view first state log legal v high id token old shown =
     let was = seen_at first log v id token.value old shown in
     let low : first.version.0 ≤ v = not_below first log legal v was.state was.found in
     let now = known first log (v + 1) (omega arith) high in
     let next = version_step first state log legal v was.state now.state was.found now.found id token old was.shown in
-    let a : IsSound old = (view_sound was.state (sound_with first state log legal v was.state was.found) id token old was.shown).sound in
-    let b : IsSound next.on.new = (view_sound now.state (sound_with first state log legal (v + 1) now.state now.found) id token next.on.new next.on.here).sound in
+    let a : IsSound old = (view_sound was.state (topology_with first state log legal v was.state was.found).each id token old was.shown).sound in
+    let b : IsSound next.on.new = (view_sound now.state (topology_with first state log legal (v + 1) now.state now.found).each id token next.on.new next.on.here).sound in
     record {
       new = next.on.new;
       here = view_with_of first log (v + 1) now.state id token.value now.found ∙ next.on.here;

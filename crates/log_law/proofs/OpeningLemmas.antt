@@ -7,7 +7,6 @@ use Rattle.tablet_map.specs.Tablets.{is_moving}
 use Rattle.tablet_map.proofs.Joined.{and_left, and_right, not_true}
 use Rattle.topo_state.specs.declared.data.Table.{Table}
 use Rattle.topo_state.specs.Openings.{IsOpening, is_still, is_undecided}
-use Rattle.topo_state.specs.Sound.{IsState}
 use Rattle.topo_state.specs.State.{Topology}
 use Rattle.topo_state.specs.Tables.{every_tablet, placed_tablet, table_in}
 use Rattle.group0_log.specs.Versions.{IsFenced}
@@ -36,9 +35,6 @@ pub opening_undecided : (first : Topology) → IsOpening first → AreDecided fi
 opening_undecided first opening id t d found h =
     let none : is_none t.resize ≡ true = undecided_in first.tables id t opening.undecided found in
     let none1 : is_none (Some d) ≡ true = ap is_none (sym h) ∙ none in cc
-
-pub opening_state : (first : Topology) → IsOpening first → IsState first
-opening_state first opening = opening.sound.each
 
 pub opening_fenced : (first : Topology) → IsOpening first → IsFenced first
 opening_fenced first opening = record { some = omega (arith, opening.fence); within = omega (arith, opening.fence, opening.version) }

@@ -10,7 +10,7 @@ use Rattle.stage_graph.proofs.Along.{move_rises}
 use Rattle.token_ring.specs.declared.token.Token.{Token}
 use Rattle.tablet_map.specs.declared.tablet.Tablet.{Tablet}
 use Rattle.topo_state.specs.declared.command.Command.{Command}
-use Rattle.topo_state.specs.Sound.{IsState}
+use Rattle.topo_state.specs.Sound.{IsTopology}
 use Rattle.topo_state.specs.State.{Topology}
 use Rattle.topo_state.specs.Views.{view}
 use Rattle.group0_log.specs.Log.{IsLegalLog, first_commands, state_at, state_of, state_with}
@@ -47,7 +47,7 @@ same_shown (Some was) stage =
     ]
 
 -- stages since the start, from any state on the way to any later one
-pub stage_since : (first : Topology) → IsState first → (log : List Command) → IsLegalLog first log → (S n m : ℕ) → S ≤ n → n ≤ m → m ≤ length log → (id : TableId) (token : Token) (stage : Stage) → shown_stage S (view (state_at first log m) id token.value) ≡ Some stage → IsFrom (shown_stage S (view (state_at first log n) id token.value)) stage
+pub stage_since : (first : Topology) → IsTopology first → (log : List Command) → IsLegalLog first log → (S n m : ℕ) → S ≤ n → n ≤ m → m ≤ length log → (id : TableId) (token : Token) (stage : Stage) → shown_stage S (view (state_at first log m) id token.value) ≡ Some stage → IsFrom (shown_stage S (view (state_at first log n) id token.value)) stage
 stage_since first state log legal S n m from to within id token stage h =
     let pre : List Command = first_commands log m in
     let len : length pre ≡ m = length-first log m within in
@@ -55,14 +55,14 @@ stage_since first state log legal S n m from to within id token stage h =
     subst (λ (s : Topology). IsFrom (shown_stage S (view s id token.value)) stage) (state_at-prefix first log n m to)
     (stage_since_start first state pre (legal-first first log m legal) S n from (omega (arith, len)) id token stage now)
 
-shown_gone : (first : Topology) → IsState first → (log : List Command) → IsLegalLog first log → (S n m : ℕ) → S ≤ n → n ≤ m → m ≤ length log → (id : TableId) (token : Token) (o : Option Stage) → shown_stage S (view (state_at first log m) id token.value) ≡ o → shown_stage S (view (state_at first log n) id token.value) ≡ None → o ≡ None
+shown_gone : (first : Topology) → IsTopology first → (log : List Command) → IsLegalLog first log → (S n m : ℕ) → S ≤ n → n ≤ m → m ≤ length log → (id : TableId) (token : Token) (o : Option Stage) → shown_stage S (view (state_at first log m) id token.value) ≡ o → shown_stage S (view (state_at first log n) id token.value) ≡ None → o ≡ None
 shown_gone first state log legal S n m from to within id token None e none = refl
 shown_gone first state log legal S n m from to within id token (Some stage) e none =
     let was = stage_since first state log legal S n m from to within id token stage e in
     let some : Some was.was ≡ None = sym was.shown ∙ none in cc some
 
 -- what a key does not show of a session since its start, it never shows again
-pub gone_for_good : (first : Topology) → IsState first → (log : List Command) → IsLegalLog first log → (S n m : ℕ) → S ≤ n → n ≤ m → m ≤ length log → (id : TableId) (token : Token) → shown_stage S (view (state_at first log n) id token.value) ≡ None → shown_stage S (view (state_at first log m) id token.value) ≡ None
+pub gone_for_good : (first : Topology) → IsTopology first → (log : List Command) → IsLegalLog first log → (S n m : ℕ) → S ≤ n → n ≤ m → m ≤ length log → (id : TableId) (token : Token) → shown_stage S (view (state_at first log n) id token.value) ≡ None → shown_stage S (view (state_at first log m) id token.value) ≡ None
 gone_for_good first state log legal S n m from to within id token none =
     shown_gone first state log legal S n m from to within id token (shown_stage S (view (state_at first log m) id token.value)) refl none
 
@@ -95,7 +95,7 @@ pub shown_at : (first : Topology) (log : List Command) (S v : ℕ) (id : TableId
 shown_at first log S v id token stage h = shown_at_by first log S v id token stage (view_with first log v id token) refl h
 
 -- stages rise from version to version
-pub rising_stages : (first : Topology) → IsStill first → IsState first → (log : List Command) → IsLegalLog first log → (S v w : ℕ) → v < w → (id : TableId) (token : Token) (was stage : Stage) → stage_with first log v S id token.value ≡ Some was → stage_with first log w S id token.value ≡ Some stage → IsNotLater was stage
+pub rising_stages : (first : Topology) → IsStill first → IsTopology first → (log : List Command) → IsLegalLog first log → (S v w : ℕ) → v < w → (id : TableId) (token : Token) (was stage : Stage) → stage_with first log v S id token.value ≡ Some was → stage_with first log w S id token.value ≡ Some stage → IsNotLater was stage
 rising_stages first still state log legal S v w lt id token was stage p q =
     let a = shown_at first log S v id token.value was p in
     let b = shown_at first log S w id token.value stage q in
@@ -107,7 +107,7 @@ rising_stages first still state log legal S v w lt id token was stage p q =
     subst (λ (x : Stage). IsNotLater x stage) is one.order
 
 -- what a version shows between two others
-pub stage_between : (first : Topology) → IsStill first → IsState first → (log : List Command) → IsLegalLog first log → (S u v w : ℕ) → u < v → v < w → (id : TableId) (token : Token) (was stage : Stage) → stage_with first log u S id token.value ≡ Some was → stage_with first log w S id token.value ≡ Some stage → IsFrom (stage_with first log v S id token.value) stage
+pub stage_between : (first : Topology) → IsStill first → IsTopology first → (log : List Command) → IsLegalLog first log → (S u v w : ℕ) → u < v → v < w → (id : TableId) (token : Token) (was stage : Stage) → stage_with first log u S id token.value ≡ Some was → stage_with first log w S id token.value ≡ Some stage → IsFrom (stage_with first log v S id token.value) stage
 stage_between first still state log legal S u v w lt less id token was stage p q =
     let a = shown_at first log S u id token.value was p in
     let b = shown_at first log S w id token.value stage q in
@@ -132,7 +132,7 @@ between_is was middle (inr lt) (inl e) = e
 between_is was middle (inr lt) (inr gt) = absurd (omega arith)
 
 -- a stage at two versions is shown at those between
-shown_between : (first : Topology) → IsStill first → IsState first → (log : List Command) → IsLegalLog first log → (S u v w : ℕ) → u < v → v < w → (id : TableId) (token : Token) (stage : Stage) → stage_with first log u S id token.value ≡ Some stage → stage_with first log w S id token.value ≡ Some stage → stage_with first log v S id token.value ≡ Some stage
+shown_between : (first : Topology) → IsStill first → IsTopology first → (log : List Command) → IsLegalLog first log → (S u v w : ℕ) → u < v → v < w → (id : TableId) (token : Token) (stage : Stage) → stage_with first log u S id token.value ≡ Some stage → stage_with first log w S id token.value ≡ Some stage → stage_with first log v S id token.value ≡ Some stage
 shown_between first still state log legal S u v w lt less id token stage p q =
     let one = stage_between first still state log legal S u v w lt less id token stage stage p q in
     let up : IsNotLater stage one.was = rising_stages first still state log legal S u v lt id token stage one.was p one.shown in
@@ -140,7 +140,7 @@ shown_between first still state log legal S u v w lt less id token stage p q =
     one.shown ∙ ap (λ s. Some s) is
 
 -- the first version that shows a stage
-reached_from : (first : Topology) → IsStill first → IsState first → (log : List Command) → IsLegalLog first log → (S v : ℕ) (id : TableId) (token : Token) (stage : Stage) → stage_with first log v S id token.value ≡ Some stage → IsReachedBy first log S id token.value stage v
+reached_from : (first : Topology) → IsStill first → IsTopology first → (log : List Command) → IsLegalLog first log → (S v : ℕ) (id : TableId) (token : Token) (stage : Stage) → stage_with first log v S id token.value ≡ Some stage → IsReachedBy first log S id token.value stage v
 reached_from first still state log legal S zero id token stage h =
     record { at = 0; within = omega arith; reached = record { shown = h; not_before = λ e lt k. absurd (omega arith) } }
 reached_from first still state log legal S (suc v) id token stage h =
@@ -162,12 +162,12 @@ reached_from first still state log legal S (suc v) id token stage h =
     ]
 
 -- a stage that a state shows was reached at its version or before
-pub reached_by : (first : Topology) → IsStill first → IsState first → (log : List Command) → IsLegalLog first log → (S n : ℕ) (id : TableId) (token : Token) (stage : Stage) → shown_stage S (view (state_at first log n) id token.value) ≡ Some stage → IsReachedBy first log S id token.value stage (state_at first log n).version.0
+pub reached_by : (first : Topology) → IsStill first → IsTopology first → (log : List Command) → IsLegalLog first log → (S n : ℕ) (id : TableId) (token : Token) (stage : Stage) → shown_stage S (view (state_at first log n) id token.value) ≡ Some stage → IsReachedBy first log S id token.value stage (state_at first log n).version.0
 reached_by first still state log legal S n id token stage h =
     reached_from first still state log legal S (state_at first log n).version.0 id token stage (ap (shown_stage S) (view_of_version first log n id token.value) ∙ h)
 
 -- the state before some command showed a stage from which there is a move to the one that was reached
-pub entered_from : (first : Topology) → IsStill first → IsState first → (log : List Command) → IsLegalLog first log → (S v : ℕ) (id : TableId) (token : Token) (stage : Stage) → IsReachedAt first log S id token.value stage v → (stage ≡ AllowWriteBothReadOld → ⊥) → IsEnteredFrom first log S id token.value stage v
+pub entered_from : (first : Topology) → IsStill first → IsTopology first → (log : List Command) → IsLegalLog first log → (S v : ℕ) (id : TableId) (token : Token) (stage : Stage) → IsReachedAt first log S id token.value stage v → (stage ≡ AllowWriteBothReadOld → ⊥) → IsEnteredFrom first log S id token.value stage v
 entered_from first still state log legal S v id token stage r not_first =
     let b = shown_at first log S v id token.value stage r.shown in
     let pre : List Command = first_commands log b.count in
@@ -196,7 +196,7 @@ only_before WriteBothReadOld h = refl
 only_before was h = cc h
 
 -- what streams wrote to both before
-pub streams_after_both : (first : Topology) → IsStill first → IsState first → (log : List Command) → IsLegalLog first log → (S v : ℕ) (id : TableId) (token : Token) → IsReachedAt first log S id token.value Streaming v → IsReachedBefore first log S id token WriteBothReadOld v
+pub streams_after_both : (first : Topology) → IsStill first → IsTopology first → (log : List Command) → IsLegalLog first log → (S v : ℕ) (id : TableId) (token : Token) → IsReachedAt first log S id token.value Streaming v → IsReachedBefore first log S id token WriteBothReadOld v
 streams_after_both first still state log legal S v id token r =
     let one = entered_from first still state log legal S v id token Streaming r (λ e. cc e) in
     record { at = one.at; earlier = one.earlier; reached = subst (λ (x : Stage). IsReachedAt first log S id token.value x one.at) (only_before one.was one.move) one.reached }

@@ -13,7 +13,7 @@ use Rattle.tablet_map.specs.Calls.{at_rest}
 use Rattle.topo_state.specs.declared.command.Command.{Command}
 use Rattle.topo_state.specs.declared.command.Command.TheVariants.{CreateTable, Start, Advance, SetFence, Join, Leave, Resize, FinalizeResize}
 use Rattle.topo_state.specs.After.{after, created_tables}
-use Rattle.topo_state.specs.Sound.{IsState}
+use Rattle.topo_state.specs.Sound.{IsState, IsTopology}
 use Rattle.topo_state.specs.State.{Topology}
 use Rattle.topo_state.specs.Tables.{at_token, placed_tablet, table_in}
 use Rattle.topo_state.specs.Views.{view}
@@ -105,7 +105,7 @@ longer before middle stage (inr lt) from =
     }
 
 -- A session that a key shows, it showed in each state since its start, at the same stage or at one that ranks lower.
-pub stage_since_start : (first : Topology) → IsState first → (log : List Command) → IsLegalLog first log → (S j : ℕ) → S ≤ j → j ≤ length log → (id : TableId) (token : Token) (stage : Stage) → shown_stage S (view (state_of first log) id token.value) ≡ Some stage → IsFrom (shown_stage S (view (state_at first log j) id token.value)) stage
+pub stage_since_start : (first : Topology) → IsTopology first → (log : List Command) → IsLegalLog first log → (S j : ℕ) → S ≤ j → j ≤ length log → (id : TableId) (token : Token) (stage : Stage) → shown_stage S (view (state_of first log) id token.value) ≡ Some stage → IsFrom (shown_stage S (view (state_at first log j) id token.value)) stage
 stage_since_start first state [] legal S j from to id token stage h = record { was = stage; shown = h; order = inl refl }
 stage_since_start first state (c ∷ log) legal S j from to id token stage h =
     elim (cases_lt (length log) j) [

@@ -63,7 +63,7 @@ pub record HasSessions (first : Topology) (log : List Command) : Type 0 where
 
 -- The place at which a session is found is that of its keys; where none is found, no key shows the session.
 pub record HasPlaces (first : Topology) (log : List Command) : Type 0 where
-  pub found : (count : ℕ) (session : Session) (place : SessionPlace) → place_of_session (state_at first log count).tables session ≡ Some place → IsPlaceOf session (state_at first log count) place
+  pub found : (count : ℕ) → count ≤ length log → (session : Session) (place : SessionPlace) → place_of_session (state_at first log count).tables session ≡ Some place → IsPlaceOf session (state_at first log count) place
   pub absent : (count : ℕ) (session : Session) → place_of_session (state_at first log count).tables session ≡ None → (id : TableId) (token : Token) → shown_stage session.0 (view (state_at first log count) id token.value) ≡ None
 
 -- each decision is that of the command of its number
