@@ -102,4 +102,3 @@ pub entered : (first : Topology) → IsStill first → IsTopology first → (log
 entered first still state [] legal S id token stage not_first h = absurd (still_stage S first still id token stage h)
 entered first still state (c ∷ log) legal S id token stage not_first h =
     entered_shown first still state c log legal S id token stage (view (state_of first (c ∷ log)) id token.value) not_first (λ k. entered first still state log legal.1 S id token stage not_first k) refl h
-

@@ -9,17 +9,17 @@ use Rattle.topo_state.specs.declared.command.Command.{Command}
 use Rattle.topo_state.specs.Openings.{IsOpening}
 use Rattle.topo_state.specs.State.{Topology}
 use Rattle.group0_log.specs.Log.{IsLegalLog, state_at}
-use Rattle.log_law.specs.Laws.{HasDecisions, HasFences, HasMembersBefore, HasPairs, HasPlaces, HasSessions, HasSoundStates, HasStages, HasVersions, HasViewSteps, HasViewsOfVersions, OfEachLog, StreamsAfterBoth}
+use Rattle.log_law.specs.Laws.{HasDecisions, HasFences, HasMembersBefore, HasPairs, HasPlaces, HasSessions, HasSoundStates, HasStages, HasVersions, HasViews, OfEachLog, StreamsAfterBoth}
 use Rattle.log_law.specs.Stages.{view_with}
 use Rattle.log_law.specs.Steps.{ViewStep}
 use Rattle.log_law.proofs.DecisionLemmas.{decided_at}
 use Rattle.log_law.proofs.EnterLemmas.{entered}
-use Rattle.log_law.proofs.NextLemmas.{next_view}
+use Rattle.log_law.proofs.NextLemmas.{first_view, next_view}
 use Rattle.log_law.proofs.OpeningLemmas.{opening_fenced, opening_still, opening_undecided}
 use Rattle.log_law.proofs.PairLemmas.{pair_of_itself, pair_of_step}
 use Rattle.log_law.proofs.PlaceLemmas.{absent_is, found_is}
 use Rattle.log_law.proofs.PrefixLemmas.{applied_at, at_start}
-use Rattle.log_law.proofs.ReachedLemmas.{entered_from, gone_for_good, reached_by, rising_stages, stage_since, streams_after_both}
+use Rattle.log_law.proofs.ReachedLemmas.{entered_from, gone_for_good, reached_by, rising_stages, stage_since, stages_in_order, streams_after_both}
 use Rattle.log_law.proofs.RisingLemmas.{before_at, before_at_first, fenced_at, latest_at, rising_states}
 use Rattle.log_law.proofs.StartLemmas.{start_of}
 use Rattle.log_law.proofs.StateLemmas.{topology_at, topology_with}
@@ -54,8 +54,9 @@ pub sound_states_law : OfEachLog HasSoundStates
 sound_states_law first opening log legal =
     record {
       states = topology_at first opening.sound log legal;
-      versions = topology_with first opening.sound log legal;
+      first_ones = topology_with first opening.sound log legal;
       views = λ count id token tablet shown. view_sound (state_at first log count) (topology_at first opening.sound log legal count).each id token tablet shown;
+      first_views = λ v x h id token tablet shown. view_sound x (topology_with first opening.sound log legal v x h).each id token tablet shown;
     }
 
 pub sessions_law : OfEachLog HasSessions
@@ -75,16 +76,19 @@ places_law first opening log legal =
 pub decisions_law : OfEachLog HasDecisions
 decisions_law first opening log legal = decided_at first (opening_undecided first opening) log
 
-pub view_steps_law : OfEachLog HasViewSteps
-view_steps_law first opening log legal = next_view first opening.sound log legal
-
-pub views_of_versions_law : OfEachLog HasViewsOfVersions
-views_of_versions_law first opening log legal = λ count id token. view_of_version first log count id token.value
+pub views_law : OfEachLog HasViews
+views_law first opening log legal =
+    record {
+      next = next_view first opening.sound log legal;
+      first_seen = λ v low. first_view first opening.sound log legal v (omega (arith, opening.version));
+      of_version = λ count id token. view_of_version first log count id token.value;
+    }
 
 pub stages_law : OfEachLog HasStages
 stages_law first opening log legal =
     record {
       since = stage_since first opening.sound log legal;
+      order = stages_in_order first (opening_still first opening) opening.sound log legal;
       reached = reached_by first (opening_still first opening) opening.sound log legal;
       entered = entered_from first (opening_still first opening) opening.sound log legal;
       rising = rising_stages first (opening_still first opening) opening.sound log legal;

@@ -2,6 +2,7 @@ pub mod VersionLemmas
 pub mod PrefixLemmas
 pub mod RisingLemmas
 pub mod StateLemmas
+pub mod ListLemmas
 pub mod ViewLemmas
 pub mod LoggedMoves
 pub mod ShownLemmas

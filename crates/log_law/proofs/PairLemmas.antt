@@ -263,7 +263,7 @@ begun_both i old new frame step p q =
       stages.0,
       stages.1,
       alike_lists old new frame (chosen Old new) (reads_of old) (turn_new from to Old) (turn_old from (reads from)) (frame.new_counts Old) (frame.old_counts (reads from))
-      (same_is (turn_new from to Old) (turn_old from (reads from)) (and_right (is_first_both from to) same both)),
+          (same_is (turn_new from to Old) (turn_old from (reads from)) (and_right (is_first_both from to) same both)),
     )
 
 -- what is being cleaned

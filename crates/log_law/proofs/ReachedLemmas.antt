@@ -15,7 +15,7 @@ use Rattle.topo_state.specs.State.{Topology}
 use Rattle.topo_state.specs.Views.{view}
 use Rattle.group0_log.specs.Log.{IsLegalLog, first_commands, state_at, state_of, state_with}
 use Rattle.log_law.specs.Laws.{IsReachedBefore}
-use Rattle.log_law.specs.Stages.{IsEnteredFrom, IsFrom, IsNotLater, IsReachedAt, IsReachedBy, shown_stage, stage_with, view_with}
+use Rattle.log_law.specs.Stages.{IsEnteredFrom, IsFrom, IsNotLater, IsReachedAt, IsReachedBy, shown_stage, stage_at, stage_with, view_with}
 use Rattle.log_law.proofs.EnterLemmas.{entered, shown_numbered}
 use Rattle.log_law.proofs.LoggedMoves.{IsStill}
 use Rattle.log_law.proofs.PrefixLemmas.{legal-first, length-first, state_at-first, state_at-prefix}
@@ -65,6 +65,15 @@ shown_gone first state log legal S n m from to within id token (Some stage) e no
 pub gone_for_good : (first : Topology) → IsTopology first → (log : List Command) → IsLegalLog first log → (S n m : ℕ) → S ≤ n → n ≤ m → m ≤ length log → (id : TableId) (token : Token) → shown_stage S (view (state_at first log n) id token.value) ≡ None → shown_stage S (view (state_at first log m) id token.value) ≡ None
 gone_for_good first state log legal S n m from to within id token none =
     shown_gone first state log legal S n m from to within id token (shown_stage S (view (state_at first log m) id token.value)) refl none
+
+-- each stage that a key showed comes no later than one that it shows
+pub stages_in_order : (first : Topology) → IsStill first → IsTopology first → (log : List Command) → IsLegalLog first log → (S n m : ℕ) → n ≤ m → m ≤ length log → (id : TableId) (token : Token) (was stage : Stage) → stage_at first log n S id token.value ≡ Some was → stage_at first log m S id token.value ≡ Some stage → IsNotLater was stage
+stages_in_order first still state log legal S n m to within id token was stage p q =
+    let from = (shown_numbered first still log legal n (omega arith) S id token.value was p).1 in
+    let one = stage_since first state log legal S n m from to within id token stage q in
+    let some : Some one.was ≡ Some was = sym one.shown ∙ p in
+    let is : one.was ≡ was = cc some in
+    subst (λ (x : Stage). IsNotLater x stage) is one.order
 
 -- a stage at a version is shown by its first state
 pub record IsShownAt (first : Topology) (log : List Command) (S v : ℕ) (id : TableId) (token : ℤ) (stage : Stage) : Type 0 where

@@ -189,4 +189,3 @@ before_is first (c ∷ log) v x e h =
                 after_raise s c (length log + 1) up1 ∙ (sym now.same.members ∙ ap (λ (y : Topology). y.members) is)
           ]
     ]
-

@@ -16,21 +16,22 @@ use Rattle.topo_state.specs.State.{Topology}
 use Rattle.topo_state.specs.Tables.{at_token, placed_tablet, table_in, tablet_of}
 use Rattle.topo_state.specs.Views.{view}
 use Rattle.group0_log.specs.Log.{state_at, state_with}
-use Rattle.log_law.specs.Laws.{IsSoundOn}
+use Rattle.log_law.specs.Laws.{IsSoundView}
 use Rattle.log_law.specs.Stages.{view_with}
+use Rattle.log_law.proofs.ListLemmas.{sound_view}
 use Rattle.log_law.proofs.RisingLemmas.{latest_at}
 
-table_view_sound : (members : List HostId) (t : Table) (token : Token) → IsTable members t → IsSoundOn members (placed_tablet (at_token token.value) t)
+table_view_sound : (members : List HostId) (t : Table) (token : Token) → IsTable members t → IsSoundView members (placed_tablet (at_token token.value) t)
 table_view_sound members t token table =
     let below : tablet_at t.map.log2 token.value < 2 ^ t.map.log2 = tablet_below t.map.log2 (place token.value) (omega (arith, table.map.few)) (place_below token.value token.is_token) in
     let lt : tablet_at t.map.log2 token.value < length t.map.list = omega (arith, table.map.count) in
-    record { sound = table.map.sound (tablet_at t.map.log2 token.value) no_tablet lt; on = table.here (tablet_at t.map.log2 token.value) no_tablet lt }
+    sound_view members (placed_tablet (at_token token.value) t) (table.map.sound (tablet_at t.map.log2 token.value) no_tablet lt) (table.here (tablet_at t.map.log2 token.value) no_tablet lt)
 
-pub view_sound : (s : Topology) → IsState s → (id : TableId) (token : Token) (tablet : Tablet) → view s id token.value ≡ Some tablet → IsSoundOn s.members tablet
+pub view_sound : (s : Topology) → IsState s → (id : TableId) (token : Token) (tablet : Tablet) → view s id token.value ≡ Some tablet → IsSoundView s.members tablet
 view_sound s state id token tablet shown =
-    elim (table_in s.tables id) as (λ o. table_in s.tables id ≡ o → option_map (placed_tablet (at_token token.value)) o ≡ Some tablet → IsSoundOn s.members tablet) [
+    elim (table_in s.tables id) as (λ o. table_in s.tables id ≡ o → option_map (placed_tablet (at_token token.value)) o ≡ Some tablet → IsSoundView s.members tablet) [
       | None ↦ λ e h. cc h
-      | Some t ↦ λ e h. (let is : placed_tablet (at_token token.value) t ≡ tablet = cc h in subst (IsSoundOn s.members) is (table_view_sound s.members t token (state id t e)))
+      | Some t ↦ λ e h. (let is : placed_tablet (at_token token.value) t ≡ tablet = cc h in subst (IsSoundView s.members) is (table_view_sound s.members t token (state id t e)))
     ] refl shown
 
 -- a state with the version's tables shows what the version does
