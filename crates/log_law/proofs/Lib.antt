@@ -21,3 +21,4 @@ pub mod TurnLemmas
 pub mod FrameLemmas
 pub mod PairLemmas
 pub mod LawLemmas
+pub mod ExampleLog

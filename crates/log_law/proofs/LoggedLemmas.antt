@@ -1,4 +1,4 @@
--- A session is its start.
+-- What the tables show of a session, along a log.
 use Rattle.std.proofs.Common.{◌≡◌, ◌+◌, ◌<◌, ◌≤◌, ℕ, List, [], ◌∷◌, length, cond, eqb, nat_lt, Bool, true, false, Option, Some, None, refl, ap, sym, ◌∙◌, arith, inl, inr}
 use Rattle.std.specs.Prelude.{IfSome, option_map}
 use Rattle.std.proofs.lemmas.Bool.{cond_both, cases_eq, cases_lt, eq-eqb, ne_eqb, lt-ltb, le-ltb}
@@ -14,7 +14,7 @@ use Rattle.log_law.specs.Moves.{Move, shown_move}
 use Rattle.log_law.proofs.LoggedMoves.{IsOneMove, IsStill, found_move, keeps_session, logged_move, started_move}
 use Rattle.log_law.proofs.ShownLemmas.{rest_shows_none, shown_move_after}
 
--- nothing is logged_move of a session above the log
+-- the log says nothing of a session above its length
 pub logged_above : (S : ℕ) (first : Topology) (log : List Command) (id : TableId) (place : ℕ → ℕ) → length log < S → logged_move S first log id place ≡ None
 logged_above S first [] id place lt = refl
 logged_above S first (c ∷ log) id place lt =
@@ -28,7 +28,7 @@ opening_by_cases S place (Some t) h = rest_shows_none S t.map.log2 (placed_table
 pub opening_shows_none : (first : Topology) → IsStill first → (S : ℕ) (id : TableId) (place : ℕ → ℕ) → shown_move S first.tables id place ≡ None
 opening_shows_none first still S id place = opening_by_cases S place (table_in first.tables id) (still id place)
 
--- what is shown_move is what the log tells
+-- what the tables show of a session is what the log says of it
 pub shown_is_logged : (first : Topology) → IsStill first → (log : List Command) → IsLegalLog first log → (S : ℕ) (id : TableId) (place : ℕ → ℕ) → shown_move S (state_of first log).tables id place ≡ logged_move S first log id place
 shown_is_logged first still [] legal S id place = opening_shows_none first still S id place
 shown_is_logged first still (c ∷ log) legal S id place =
@@ -53,7 +53,8 @@ logged_numbered S first log id place m h =
       | inr ge ↦ ge
     ]
 
--- While a session is shown_move anywhere, each state since its start shows of it what this one shows, at each place of each table.
+-- While a session is shown anywhere, each state since its start shows of it what this one shows, at each place of each
+-- table.
 pub shown_since : (first : Topology) → IsStill first → (log : List Command) → IsLegalLog first log → (S : ℕ) (x : TableId) (p : ℕ → ℕ) (m : Move) → logged_move S first log x p ≡ Some m → (j : ℕ) → S ≤ j → j ≤ length log → (id : TableId) (place : ℕ → ℕ) → shown_move S (state_at first log j).tables id place ≡ logged_move S first log id place
 shown_since first still [] legal S x p m alive j from to id place = cc alive
 shown_since first still (c ∷ log) legal S x p m alive j from to id place =

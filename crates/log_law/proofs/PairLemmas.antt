@@ -18,7 +18,7 @@ use Rattle.tablet_map.specs.Sets.{selected}
 use Rattle.tablet_map.proofs.Joined.{and_left, and_right, is_false}
 use Rattle.tablet_map.proofs.Counts.{one_if}
 use Rattle.topo_state.specs.Lists.{Cleaned, Leaving, Nobody, Pending, chosen, cleanable_in, cleaned_by, cleans, is_both, is_cleanable, reads_of, stage_in, writes_both, writes_of}
-use Rattle.log_law.specs.Pairs.{CleaningGoesOn, HasNoCleanable, IsAlike, IsPair, IsSameMove, Matters, NewList, OwnList, ReadBefore, ReadNow, ReadsGoOn, ReadsNew, ReadsOldAgain, SameReads, cleanable_host_in, cleaned_host, is_cleanable_host}
+use Rattle.log_law.specs.Pairs.{CleaningGoesOn, HasNoCleanable, IsAlike, IsPair, IsSameMove, Matters, NewList, OwnList, ReadBefore, ReadNow, ReadsGoOn, ReadsNew, ReadsOldAgain, SameReads, StaysCleanable, cleanable_host_in, cleaned_host, is_cleanable_host}
 use Rattle.log_law.specs.Steps.{Advances, Finishes, Regroups, Reverts, Starts, Stays, ViewStep}
 use Rattle.log_law.proofs.FrameLemmas.{framed}
 use Rattle.log_law.proofs.TurnLemmas.{all_carry, all_miss, all_stay, at_step, carried, count_first, count_if_none, count_less, missed, same_is}
@@ -77,8 +77,8 @@ chosen_one old new written frame w can free list (OwnList p) =
 chosen_one old new written frame w can free list (NewList p q) =
     record { selector = turn_new (stage_in old) (stage_in new) New; counts = frame.new_counts New; carries = can.new_new p q; misses = free.new_new p refl }
 
-kept : (old new : Tablet) → IsSound old → (frame : Frame old new) (w : Selector) (list : List Replica) → IsChosen old new frame.move w list → (test : Replica → Bool) (n : ℕ) → n + extra w ≤ count_by test (selected w old.replicas frame.move) → n ≤ count_by (λ r. test r && not (is_cleanable new r)) list
-kept old new sound frame w list one test n h =
+kept_by_replicas : (old new : Tablet) → IsSound old → (frame : Frame old new) (w : Selector) (list : List Replica) → IsChosen old new frame.move w list → (test : Replica → Bool) (n : ℕ) → n + extra w ≤ count_by test (selected w old.replicas frame.move) → n ≤ count_by (λ r. test r && not (is_cleanable new r)) list
+kept_by_replicas old new sound frame w list one test n h =
     let enough : n ≤ count_by test (selected one.selector old.replicas frame.move) = carried w one.selector old.replicas frame.move test n one.carries frame.leaves h in
     let none : count_by (cleaned_by (cleans (stage_in new)) frame.move) (selected one.selector old.replicas frame.move) ≡ 0 =
     missed (cleans (stage_in new)) one.selector old.replicas frame.move one.misses sound.replicas.distinct frame.leaves frame.comes in
@@ -150,6 +150,12 @@ nobody_by_cases None host h = refl
 nobody_by_cases (Some t) host h =
     elim (cleans (Some t.stage)) as (λ c. is_nobody c ≡ true → cleaned_host c t host ≡ false)
     [ Nobody ↦ λ k. refl | Leaving ↦ λ k. cc k | Pending ↦ λ k. cc k ] h
+
+kept : (old new : Tablet) → IsSound old → (frame : Frame old new) (w : Selector) (list : List Replica) → IsChosen old new frame.move w list → (test : Replica → Bool) (n : ℕ) → n + extra w ≤ count_by test (selected w old.replicas frame.move) → n ≤ count_by (λ (r : Replica). test r && not (is_cleanable_host new r.host)) list
+kept old new sound frame w list one test n h =
+    let same : count_by (λ (r : Replica). test r && not (is_cleanable new r)) list ≡ count_by (λ (r : Replica). test r && not (is_cleanable_host new r.host)) list =
+    count_ext (λ (r : Replica). test r && not (is_cleanable new r)) (λ (r : Replica). test r && not (is_cleanable_host new r.host)) (λ r. ap (λ b. test r && not b) (cleanable_of_host new r)) list in
+    let enough = kept_by_replicas old new sound frame w list one test n h in omega (arith, same, enough)
 
 -- what the stage table says
 
@@ -271,22 +277,37 @@ begun_both i old new frame step p q =
 some_is : (o : Option Transition) (a b : Transition) → o ≡ Some a → o ≡ Some b → a ≡ b
 some_is o a b p q = (let e : Some a ≡ Some b = sym p ∙ q in cc e)
 
+same_cleaned_host : (c : Cleaned) (a b : Transition) → IsSameMove a b → (host : HostId) → cleaned_host c b host ≡ cleaned_host c a host
+same_cleaned_host Nobody a b same host = refl
+same_cleaned_host Leaving a b same host = ap (λ (r : Replica). eqb r.host.0 host.0) same.leaving
+same_cleaned_host Pending a b same host = ap (λ (r : Replica). eqb r.host.0 host.0) same.pending
+
+stays_cleanable : (t u : Transition) (old new : Tablet) → old.transition ≡ Some t → new.transition ≡ Some u → IsSameMove t u → cleans (Some u.stage) ≡ cleans (Some t.stage) → StaysCleanable t old new
+stays_cleanable t u old new was now same cleaned =
+    record {
+      move = u;
+      moving = now;
+      same = same;
+      cleaned = cleaned;
+      hosts = λ host.
+          ap (λ (o : Option Transition). cleanable_host_in o host) now ∙
+          (ap (λ c. cleaned_host c u host) cleaned ∙
+          (same_cleaned_host (cleans (Some t.stage)) t u same host ∙ sym (ap (λ (o : Option Transition). cleanable_host_in o host) was)));
+    }
+
 cleaning_goes_on : (i : ℕ) (old new : Tablet) → ViewStep i old new → CleaningGoesOn old new
-cleaning_goes_on i old new (Stays e) t was at = record { move = t; moving = ap (λ (x : Tablet). x.transition) e ∙ was; same = same_moves t t refl; cleaned = refl }
+cleaning_goes_on i old new (Stays e) t was at = stays_cleanable t t old new was (ap (λ (x : Tablet). x.transition) e ∙ was) (same_moves t t refl) refl
 cleaning_goes_on i old new (Regroups same rests now) t was at = (let none : Some t ≡ None = sym was ∙ rests in cc none)
 cleaning_goes_on i old new (Starts leaving pending rests moves e) t was at = (let none : Some t ≡ None = sym was ∙ rests in cc none)
 cleaning_goes_on i old new (Advances u to moving ok e) t was at =
     let is : u ≡ t = some_is old.transition u t moving was in
-    let ok' : next_ok t.stage (Some to) ≡ true = ap (λ (x : Transition). next_ok x.stage (Some to)) (sym is) ∙ ok in
-    record {
-      move = record u { stage = to };
-      moving = ap (λ (x : Tablet). x.transition) e;
-      same = record { leaving = ap (λ (x : Transition). x.leaving) is; pending = ap (λ (x : Transition). x.pending) is; session = ap (λ (x : Transition). x.session) is };
-      cleaned = elim at [
-        | inl c ↦ after_cleanup to (ap (λ s. next_ok s (Some to)) (sym c) ∙ ok') ∙ ap (λ s. cleans (Some s)) (sym c)
-        | inr c ↦ after_target to (ap (λ s. next_ok s (Some to)) (sym c) ∙ ok') ∙ ap (λ s. cleans (Some s)) (sym c)
-      ];
-    }
+    let may : next_ok t.stage (Some to) ≡ true = ap (λ (x : Transition). next_ok x.stage (Some to)) (sym is) ∙ ok in
+    stays_cleanable t (record u { stage = to }) old new was (ap (λ (x : Tablet). x.transition) e)
+    (record { leaving = ap (λ (x : Transition). x.leaving) is; pending = ap (λ (x : Transition). x.pending) is; session = ap (λ (x : Transition). x.session) is })
+    (elim at [
+      | inl c ↦ after_cleanup to (ap (λ s. next_ok s (Some to)) (sym c) ∙ may) ∙ ap (λ s. cleans (Some s)) (sym c)
+      | inr c ↦ after_target to (ap (λ s. next_ok s (Some to)) (sym c) ∙ may) ∙ ap (λ s. cleans (Some s)) (sym c)
+    ])
 cleaning_goes_on i old new (Finishes u moving last e) t was at =
     let is : u ≡ t = some_is old.transition u t moving was in
     let end : t.stage ≡ EndMigration = ap (λ (x : Transition). x.stage) (sym is) ∙ last in
@@ -302,6 +323,7 @@ cleaning_goes_on i old new (Reverts u moving last e) t was at =
       | inr c ↦ (let no_stage : CleanupTarget ≡ RevertMigration = sym c ∙ end in cc no_stage)
     ]
 
+-- the two views of a step are a pair
 pub pair_of_step : (i : ℕ) (old new : Tablet) → IsSound old → IsSound new → ViewStep i old new → IsPair old new
 pair_of_step i old new sound later step =
     let frame : Frame old new = framed i old new sound later step in

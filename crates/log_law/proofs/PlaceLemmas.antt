@@ -105,7 +105,7 @@ none_by : (t : Table) (rest : List Table) (session : Session) (o : Option ℕ) �
 none_by t rest session None e h = (e, h)
 none_by t rest session (Some n) e h = cc h
 
--- where none is found, none is shown_move
+-- where none is found, none is shown
 pub none_found : (session : Session) (tables : List Table) (id : TableId) (place : ℕ → ℕ) → place_of_session tables session ≡ None → shown_move session.0 tables id place ≡ None
 none_found session [] id place h = refl
 none_found session (t ∷ rest) id place h =

@@ -1,4 +1,4 @@
--- What is shown_move of a session, before and after a command.
+-- What the tables show of a session, before and after a command.
 use Rattle.std.proofs.Common.{◌≡◌, ◌/◌, ◌^◌, ◌<◌, ◌≤◌, ℕ, zero, suc, List, [], ◌∷◌, map, length, replicate, set, cond, eqb, Bool, true, false, not, ◌&&◌, Option, Some, None, refl, ap, sym, ◌∙◌, arith, inl, inr}
 use Rattle.std.specs.Prelude.{is_some}
 use Rattle.std.specs.List.{flat_map}
@@ -116,7 +116,7 @@ created_shows_none S place (Leave host) id = refl
 created_shows_none S place (Resize x kind) id = refl
 created_shows_none S place (FinalizeResize x seq) id = refl
 
--- where the session of this number is not shown_move yet
+-- where the session of this number is not shown yet
 kept : (S i : ℕ) (f : ℕ → Option Move) → f i ≡ None → f S ≡ cond (eqb S i) None (f S)
 kept S i f fresh =
     elim (cases_eq S i) [
@@ -223,7 +223,8 @@ no_start_of s (Leave host) ok id place e = refl
 no_start_of s (Resize x kind) ok id place e = refl
 no_start_of s (FinalizeResize x seq) ok id place e = refl
 
--- What is shown_move after an accepted command: of the session of its number what it starts, of another what was shown_move, unless it ends it.
+-- What is shown after an accepted command: of the session of its number what it starts, and of another what was shown
+-- before, unless it ends it.
 pub shown_move_after : (s : Topology) (c : Command) (i : ℕ) → rule s c ≡ None → (S : ℕ) (id : TableId) (place : ℕ → ℕ) → shown_move i s.tables id place ≡ None → shown_move S (after s c i).tables id place ≡ cond (eqb S i) (started_move s c id place) (cond (keeps_session S c) (shown_move S s.tables id place) None)
 shown_move_after s c i ok S id place fresh =
     elim (table_in s.tables id) as (λ o. table_in s.tables id ≡ o → shown_move S (after s c i).tables id place ≡ cond (eqb S i) (started_move s c id place) (cond (keeps_session S c) (shown_move S s.tables id place) None)) [
