@@ -17,10 +17,10 @@ use Rattle.topo_state.specs.State.{Topology}
 use Rattle.topo_state.specs.Tables.{at_token}
 use Rattle.topo_state.specs.Views.{view}
 use Rattle.group0_log.specs.Log.{IsLegalLog, state_at, state_of}
+use Rattle.group0_log.proofs.StateLemmas.{at_last, at_older}
 use Rattle.log_law.specs.Stages.{shown_stage, stage_of}
 use Rattle.log_law.specs.Steps.{Advances, Finishes, Regroups, Reverts, Starts, Stays}
 use Rattle.log_law.proofs.LoggedMoves.{IsStill}
-use Rattle.log_law.proofs.PrefixLemmas.{at_last, at_older}
 use Rattle.log_law.proofs.StageLemmas.{Began, CameFrom, Went, came_from}
 use Rattle.log_law.proofs.StartLemmas.{start_of}
 use Rattle.log_law.proofs.StateLemmas.{sound_log}

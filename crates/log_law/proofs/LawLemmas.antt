@@ -9,6 +9,7 @@ use Rattle.topo_state.specs.declared.command.Command.{Command}
 use Rattle.topo_state.specs.Openings.{IsOpening}
 use Rattle.topo_state.specs.State.{Topology}
 use Rattle.group0_log.specs.Log.{IsLegalLog, state_at}
+use Rattle.group0_log.proofs.StateLemmas.{at_first}
 use Rattle.log_law.specs.Laws.{HasDecisions, HasFences, HasMembersBefore, HasPairs, HasPlaces, HasSessions, HasSoundStates, HasStages, HasVersions, HasViews, OfEachLog, StreamsAfterBoth}
 use Rattle.log_law.specs.Stages.{view_with}
 use Rattle.log_law.specs.Steps.{ViewStep}
@@ -18,7 +19,7 @@ use Rattle.log_law.proofs.NextLemmas.{first_view, next_view}
 use Rattle.log_law.proofs.OpeningLemmas.{opening_fenced, opening_still, opening_undecided}
 use Rattle.log_law.proofs.PairLemmas.{pair_of_itself, pair_of_step}
 use Rattle.log_law.proofs.PlaceLemmas.{absent_is, found_is}
-use Rattle.log_law.proofs.PrefixLemmas.{applied_at, at_start}
+use Rattle.log_law.proofs.PrefixLemmas.{applied_at}
 use Rattle.log_law.proofs.ReachedLemmas.{entered_from, gone_for_good, reached_by, rising_stages, stage_since, stages_in_order, streams_after_both}
 use Rattle.log_law.proofs.RisingLemmas.{before_at, before_at_first, fenced_at, latest_at, rising_states}
 use Rattle.log_law.proofs.StartLemmas.{start_of}
@@ -29,7 +30,7 @@ use Rattle.log_law.proofs.ViewLemmas.{seen_at, view_of_version, view_sound}
 pub versions_law : OfEachLog HasVersions
 versions_law first opening log legal =
     record {
-      first_one = ap (λ (s : Topology). s.version.0) (at_start first log) ∙ opening.version;
+      first_one = ap (λ (s : Topology). s.version.0) (at_first first log) ∙ opening.version;
       raised = λ count c h. (let one = applied_at first log legal count c h in ap (λ (s : Topology). s.version.0) one.then ∙ version_then (state_at first log count) c (count + 1));
       rising = λ earlier later le. (rising_states first log legal earlier later le).version;
       known = λ v low high. known first log v (omega (arith, opening.version)) high;

@@ -5,6 +5,7 @@ use Rattle.topo_state.specs.declared.command.Command.{Command}
 use Rattle.topo_state.specs.After.{after}
 use Rattle.topo_state.specs.State.{Topology}
 use Rattle.group0_log.specs.Log.{IsAccepted, IsLegalLog, command_at, first_commands, only_with, or_later, state_at, state_of, state_with}
+use Rattle.group0_log.proofs.StateLemmas.{at_last, at_older, command_within}
 
 pub legal-first : (first : Topology) (log : List Command) (n : ℕ) → IsLegalLog first log → IsLegalLog first (first_commands log n)
 legal-first first [] n legal = legal
@@ -25,18 +26,6 @@ length-first (c ∷ log) n le =
       | inr ge ↦ (let p : nat_lt (length log) n ≡ false = le-ltb (length log) n ge in rw p (length-first log n ge))
     ]
 
--- one command more leaves the states before it; the last is the state of the log
-pub at_older : (first : Topology) (c : Command) (log : List Command) (n : ℕ) → n ≤ length log → state_at first (c ∷ log) n ≡ state_at first log n
-at_older first c log n le = ap (λ (v : Bool). cond v (state_of first (c ∷ log)) (state_at first log n)) (le-ltb (length log) n le)
-
-pub at_last : (first : Topology) (log : List Command) (n : ℕ) → length log ≤ n → state_at first log n ≡ state_of first log
-at_last first [] n le = refl
-at_last first (c ∷ log) n le = ap (λ (v : Bool). cond v (state_of first (c ∷ log)) (state_at first log n)) (lt-ltb (length log) n (omega arith))
-
-pub at_start : (first : Topology) (log : List Command) → state_at first log 0 ≡ first
-at_start first [] = refl
-at_start first (c ∷ log) = at_older first c log 0 (omega arith) ∙ at_start first log
-
 -- the first n commands lead through the same states
 pub state_at-prefix : (first : Topology) (log : List Command) (n m : ℕ) → n ≤ m → state_at first (first_commands log m) n ≡ state_at first log n
 state_at-prefix first [] n m le = refl
@@ -55,17 +44,9 @@ state_with-first first (c ∷ log) n v x h =
     [ true ↦ λ k. k | false ↦ λ k. ap (λ (o : Option Topology). or_later o (only_with v (state_of first (c ∷ log)))) (state_with-first first log n v x k) ] h
 
 -- commands by number
-pub command_at_above : (log : List Command) (n : ℕ) (c : Command) → command_at log n ≡ Some c → n ≤ length log
-command_at_above [] n c h = cc h
-command_at_above (x ∷ log) n c h =
-    elim (cases_eq n (length log + 1)) [
-      | inl e ↦ omega arith
-      | inr e ↦ (let p : eqb n (length log + 1) ≡ false = ne_eqb n (length log + 1) e in let low : n ≤ length log = command_at_above log n c (rw p at h) in omega arith)
-    ]
-
 pub command_at_older : (log : List Command) (x : Command) (n : ℕ) (c : Command) → command_at log n ≡ Some c → command_at (x ∷ log) n ≡ Some c
 command_at_older log x n c h =
-    let low : n ≤ length log = command_at_above log n c h in
+    let low : n ≤ length log = command_within log n c h in
     let p : eqb n (length log + 1) ≡ false = ne_eqb n (length log + 1) (λ e. omega arith) in rw p h
 
 pub command_at-first : (log : List Command) (m n : ℕ) (c : Command) → command_at (first_commands log m) n ≡ Some c → command_at log n ≡ Some c
@@ -96,7 +77,7 @@ applied_at first (x ∷ log) legal n c h =
       | inr e ↦
           let p : eqb (n + 1) (length log + 1) ≡ false = ne_eqb (n + 1) (length log + 1) (λ f. e (omega arith)) in
           let old : command_at log (n + 1) ≡ Some c = rw p at h in
-          let low : n + 1 ≤ length log = command_at_above log (n + 1) c old in
+          let low : n + 1 ≤ length log = command_within log (n + 1) c old in
           let one = applied_at first log legal.1 n c old in
           let was : state_at first (x ∷ log) n ≡ state_at first log n = at_older first x log n (omega arith) in
           record {

@@ -5,7 +5,8 @@ use Rattle.topo_state.specs.declared.command.Command.{Command}
 use Rattle.topo_state.specs.State.{Topology}
 use Rattle.group0_log.specs.Log.{IsLegalLog, first_commands, only_with, or_later, state_at, state_of, state_with}
 use Rattle.group0_log.specs.Versions.{IsFenced, IsLatest, raises}
-use Rattle.log_law.proofs.PrefixLemmas.{at_last, at_older, at_start, legal-first, state_at-first, state_at-prefix, state_with-first}
+use Rattle.group0_log.proofs.StateLemmas.{at_first, at_last, at_older}
+use Rattle.log_law.proofs.PrefixLemmas.{legal-first, state_at-first, state_at-prefix, state_with-first}
 use Rattle.log_law.proofs.VersionLemmas.{before_is, fence_rises, fenced_log, known, latest, only_here, only_is, or_later_some, version_then}
 
 pub latest_at : (first : Topology) (log : List Command) (n : ℕ) → IsLatest first log (state_at first log n).version.0 (state_at first log n)
@@ -62,7 +63,7 @@ numbered_state first (c ∷ log) v x h =
 pub not_below : (first : Topology) (log : List Command) → IsLegalLog first log → (v : ℕ) (x : Topology) → state_with first log v ≡ Some x → first.version.0 ≤ v
 not_below first log legal v x h =
     let one = numbered_state first log v x h in
-    let up : first.version.0 ≤ (state_at first log one.count).version.0 = subst (λ (s : Topology). s.version.0 ≤ (state_at first log one.count).version.0) (at_start first log) (rising_states first log legal 0 one.count (omega arith)).version in
+    let up : first.version.0 ≤ (state_at first log one.count).version.0 = subst (λ (s : Topology). s.version.0 ≤ (state_at first log one.count).version.0) (at_first first log) (rising_states first log legal 0 one.count (omega arith)).version in
     let at : (state_at first log one.count).version.0 ≡ v = ap (λ (s : Topology). s.version.0) one.here ∙ one.version in omega (arith, up, at)
 
 -- a state of a lower version stands before one of a higher
