@@ -11,7 +11,7 @@ use Rattle.topo_state.specs.declared.command.Command.TheVariants.{Start, Advance
 use Rattle.topo_state.specs.State.{Topology, table_or_empty}
 use Rattle.topo_state.specs.Tables.{tablet_of}
 use Rattle.group0_log.specs.Log.{command_at, state_of}
-use Rattle.log_law.specs.Moves.{Move, table_move}
+use Rattle.log_law.specs.Moves.{Move, only_move, table_move}
 
 -- the move that a table shows of a session, where there is a table
 abbrev pub found_move : ℕ → (ℕ → ℕ) → Option Table → Option Move
@@ -43,7 +43,7 @@ pub record IsOneMove (session : ℕ) (first : Topology) (log : List Command) (sh
   pub move : Move
   pub numbered : (1 ≤ session) × (session ≤ length log)
   pub started : command_at log session ≡ Some (Start table tablet move.leaving move.pending)
-  pub alone : (id : TableId) (place : ℕ → ℕ) → shows id place ≡ (if same_table id table && (place move.log2 == tablet.0) then Some move else None)
+  pub alone : (id : TableId) (place : ℕ → ℕ) → shows id place ≡ only_move table tablet move id place
 
 -- the tables of a state are at rest
 abbrev pub IsStill : Topology → Type 0

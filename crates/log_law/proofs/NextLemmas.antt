@@ -113,6 +113,9 @@ rests_from : (index : ℕ) (before : Option Tablet) (new : Tablet) → before �
 rests_from index before new none (Went old e step) = (let some : Some old ≡ None = sym e ∙ none in cc some)
 rests_from index before new none (Began e rests) = rests
 
+view_then : (s y : Topology) (id : TableId) (token : Token) (new : Tablet) → y ≡ s → view y id token.value ≡ Some new → view s id token.value ≡ Some new
+view_then s y id token new e h = ap (λ (x : Topology). view x id token.value) (sym e) ∙ h
+
 -- what a key first sees is at rest
 pub first_view : (first : Topology) → IsTopology first → (log : List Command) → IsLegalLog first log → (v : ℕ) → first.version.0 ≤ v → (id : TableId) (token : Token) (new : Tablet) → view_with first log v id token.value ≡ None → view_with first log (v + 1) id token.value ≡ Some new → new.transition ≡ None
 first_view first state log legal v low id token new none shown =
@@ -122,4 +125,4 @@ first_view first state log legal v low id token new none shown =
     let next = next_version first state log legal v was.state now.state was.found now.found in
     let unseen : view next.state id token.value ≡ None = same_view next.state was.state next.same id token ∙ (sym (view_with_of first log v was.state id token.value was.found) ∙ none) in
     rests_from next.index (view next.state id token.value) new unseen
-    (came_from next.state next.command next.index next.accepted next.sound.each id token new (ap (λ (s : Topology). view s id token.value) (sym next.then) ∙ now.shown))
+    (came_from next.state next.command next.index next.accepted next.sound.each id token new (view_then (after next.state next.command next.index) now.state id token new next.then now.shown))

@@ -179,11 +179,11 @@ first_both_cases from to h = cc h
 
 after_cleanup : (to : Stage) → next_ok Cleanup (Some to) ≡ true → cleans (Some to) ≡ Leaving
 after_cleanup EndMigration h = refl
-after_cleanup to h = cc h
+after_cleanup to h = cc
 
 after_target : (to : Stage) → next_ok CleanupTarget (Some to) ≡ true → cleans (Some to) ≡ Pending
 after_target RevertMigration h = refl
-after_target to h = cc h
+after_target to h = cc
 
 -- what is read
 

@@ -115,6 +115,11 @@ rising_stages first still state log legal S v w lt id token was stage p q =
     let is : one.was ≡ was = cc some in
     subst (λ (x : Stage). IsNotLater x stage) is one.order
 
+-- a version shows what its first state shows
+shown_with : (first : Topology) (log : List Command) (S v n : ℕ) (x : Topology) (id : TableId) (token : ℤ) (o : Option Stage) → state_with first log v ≡ Some x → state_at first log n ≡ x → shown_stage S (view (state_at first log n) id token) ≡ o → stage_with first log v S id token ≡ o
+shown_with first log S v n x id token o found here h =
+    ap (shown_stage S) (view_with_of first log v x id token found) ∙ (ap (λ (s : Topology). shown_stage S (view s id token)) (sym here) ∙ h)
+
 -- what a version shows between two others
 pub stage_between : (first : Topology) → IsStill first → IsTopology first → (log : List Command) → IsLegalLog first log → (S u v w : ℕ) → u < v → v < w → (id : TableId) (token : Token) (was stage : Stage) → stage_with first log u S id token.value ≡ Some was → stage_with first log w S id token.value ≡ Some stage → IsFrom (stage_with first log v S id token.value) stage
 stage_between first still state log legal S u v w lt less id token was stage p q =
@@ -131,7 +136,7 @@ stage_between first still state log legal S u v w lt less id token was stage p q
     let one = stage_since first state log legal S c.count b.count (omega arith) (omega arith) b.within id token stage b.shown in
     record {
       was = one.was;
-      shown = ap (shown_stage S) (view_with_of first log v k.state id token.value k.found) ∙ (ap (λ (s : Topology). shown_stage S (view s id token.value)) (sym c.here) ∙ one.shown);
+      shown = shown_with first log S v c.count k.state id token.value (Some one.was) k.found c.here one.shown;
       order = one.order;
     }
 

@@ -39,7 +39,8 @@ pub record IsFrom (before : Option Stage) (stage : Stage) : Type 0 where
 
 -- what a key sees of the first state that has a version; none where no state has it
 abbrev pub view_with : Topology → List Command → ℕ → TableId → ℤ → Option Tablet
-view_with first log version id token = option_and_then (λ (state : Topology). view state id token) (state_with first log version)
+view_with first log version id token =
+    option_and_then (λ (state : Topology). view state id token) (state_with first log version)
 
 -- the stage of a session that a key shows at a version
 abbrev pub stage_with : Topology → List Command → ℕ → ℕ → TableId → ℤ → Option Stage
@@ -54,13 +55,15 @@ pub record IsReachedAt (first : Topology) (log : List Command) (session : ℕ) (
       stage_with first log earlier session id token ≡ Some stage → ⊥
 
 -- a session reached a stage at a version that is not above this one
-pub record IsReachedBy (first : Topology) (log : List Command) (session : ℕ) (id : TableId) (token : ℤ) (stage : Stage) (version : ℕ) : Type 0 where
+pub record IsReachedBy (first : Topology) (log : List Command) (session : ℕ) (id : TableId) (token : ℤ)
+    (stage : Stage) (version : ℕ) : Type 0 where
   pub at : ℕ
   pub within : at ≤ version
   pub reached : IsReachedAt first log session id token stage at
 
 -- a session reached, at an earlier version, a stage from which the stage table has a move to this one
-pub record IsEnteredFrom (first : Topology) (log : List Command) (session : ℕ) (id : TableId) (token : ℤ) (stage : Stage) (version : ℕ) : Type 0 where
+pub record IsEnteredFrom (first : Topology) (log : List Command) (session : ℕ) (id : TableId) (token : ℤ)
+    (stage : Stage) (version : ℕ) : Type 0 where
   pub was : Stage
   pub at : ℕ
   pub earlier : at < version
