@@ -1,12 +1,12 @@
 -- The course of a schedule, round by round.
-use Rattle.std.proofs.Common.{◌≡◌, ℕ, zero, suc, ◌+◌, ◌<◌, ◌≤◌, ◌++◌, List, Option, None, Some, IfSome, refl, ap, sym, ◌∙◌, subst, arith, add-one, append_assoc, append-nil}
+use Rattle.std.proofs.Common.{◌≡◌, ℕ, zero, suc, ◌+◌, ◌<◌, ◌≤◌, ◌++◌, List, Option, None, Some, IfSome, refl, ap, sym, ◌∙◌, arith, add-one, append_assoc, append-nil}
 use Rattle.stage_graph.specs.declared.stage.Stage.{Stage}
 use Rattle.schedule_gen.specs.declared.course.Action.{Action}
 use Rattle.schedule_gen.specs.declared.course.Action.TheVariants.{Write, Read, Delete, Step}
 use Rattle.schedule_gen.specs.declared.course.Course.{Course}
 use Rattle.schedule_gen.specs.declared.course.TabletMove.{TabletMove}
 use Rattle.schedule_gen.specs.Moves.{next_forward}
-use Rattle.schedule_gen.specs.Course.{opening_course, after_advance, after_step, after_action, next_action, once_drawn, next_course, round_text}
+use Rattle.schedule_gen.specs.Course.{opening_course, course_after_advance, course_after_step, course_after_action, next_action, course_after_draw, next_course, round_text}
 use Rattle.schedule_gen.specs.Schedule.{course_after, rounds_text, schedule_text}
 use Rattle.schedule_gen.specs.Lines.{header}
 
@@ -15,15 +15,15 @@ pub record IsWithin (steps : ℕ) (course : Course) : Type 0 where
   pub few : course.steps ≤ steps
   pub tablet : IfSome course.moving (λ moving. moving.tablet < 4)
 
-advance-within : (steps : ℕ) (moving : TabletMove) (to : Option Stage) (course : Course) → moving.tablet < 4 → IsWithin steps course → IsWithin (steps + 1) (after_advance moving to course)
+advance-within : (steps : ℕ) (moving : TabletMove) (to : Option Stage) (course : Course) → moving.tablet < 4 → IsWithin steps course → IsWithin (steps + 1) (course_after_advance moving to course)
 advance-within steps moving None course four within = record { few = omega (arith, within.few); tablet = tt }
 advance-within steps moving (Some stage) course four within = record { few = omega (arith, within.few); tablet = four }
 
-step-within : (steps : ℕ) (moving : Option TabletMove) (course : Course) → IfSome moving (λ m. m.tablet < 4) → IsWithin steps course → IsWithin (steps + 1) (after_step moving course)
+step-within : (steps : ℕ) (moving : Option TabletMove) (course : Course) → IfSome moving (λ m. m.tablet < 4) → IsWithin steps course → IsWithin (steps + 1) (course_after_step moving course)
 step-within steps None course four within = record { few = omega (arith, within.few); tablet = omega arith }
 step-within steps (Some moving) course four within = advance-within steps moving (next_forward moving.stage) course four within
 
-action-within : (steps : ℕ) (action : Action) (course : Course) → IsWithin steps course → IsWithin (steps + 1) (after_action action course)
+action-within : (steps : ℕ) (action : Action) (course : Course) → IsWithin steps course → IsWithin (steps + 1) (course_after_action action course)
 action-within steps Write course within = record { few = omega (arith, within.few); tablet = within.tablet }
 action-within steps Read course within = record { few = omega (arith, within.few); tablet = within.tablet }
 action-within steps Delete course within = record { few = omega (arith, within.few); tablet = within.tablet }
@@ -31,7 +31,7 @@ action-within steps Step course within = step-within steps course.moving course 
 
 next-within : (steps : ℕ) (course : Course) → IsWithin steps course → IsWithin (steps + 1) (next_course course)
 next-within steps course within =
-    action-within steps (next_action course) (once_drawn course) (record { few = within.few; tablet = within.tablet })
+    action-within steps (next_action course) (course_after_draw course) (record { few = within.few; tablet = within.tablet })
 
 pub course-within : (n rounds : ℕ) → IsWithin rounds (course_after n rounds)
 unfolding course_after

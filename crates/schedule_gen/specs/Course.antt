@@ -6,7 +6,7 @@ use Rattle.schedule_gen.specs.declared.course.Action.{Action}
 use Rattle.schedule_gen.specs.declared.course.Action.TheVariants.{Write, Read, Delete, Step}
 use Rattle.schedule_gen.specs.declared.course.Course.{Course}
 use Rattle.schedule_gen.specs.declared.course.TabletMove.{TabletMove}
-use Rattle.schedule_gen.specs.Draws.{generator_of, drawn, after_draws}
+use Rattle.schedule_gen.specs.Draws.{generator_of, drawn_number, generator_after}
 use Rattle.schedule_gen.specs.Moves.{next_forward, least_absent}
 use Rattle.schedule_gen.specs.Lines.{write_line, read_line, delete_line, start_line, advance_lines}
 
@@ -31,23 +31,24 @@ hosts_of course tablet = slice_index_or course.replicas tablet []
 
 -- the drawn tablet goes from the first host of its replicas to the least host that has none; the session's number is
 -- the count of `step` lines, this one included
-abbrev pub started : Course → TabletMove
-started course = record {
-  tablet = drawn 0 4 course.generator;
-  pending = least_absent (hosts_of course (drawn 0 4 course.generator));
+abbrev pub started_move : Course → TabletMove
+started_move course = record {
+  tablet = drawn_number 0 4 course.generator;
+  pending = least_absent (hosts_of course (drawn_number 0 4 course.generator));
   session = course.steps + 1;
   stage = AllowWriteBothReadOld;
 }
 
 abbrev pub start_text : Course → List ℕ
 start_text course =
-    start_line (started course).tablet (slice_index (hosts_of course (started course).tablet) 0) (started course).pending
+    let move = started_move course in
+    start_line move.tablet (slice_index (hosts_of course move.tablet) 0) move.pending
 
-abbrev pub after_start : Course → Course
-after_start course = record course {
-  generator = after_draws 1 course.generator;
+abbrev pub course_after_start : Course → Course
+course_after_start course = record course {
+  generator = generator_after 1 course.generator;
   steps = course.steps + 1;
-  moving = Some (started course);
+  moving = Some (started_move course);
 }
 
 -- ---- a step of the move that goes on
@@ -56,12 +57,12 @@ abbrev pub advance_text : TabletMove → List ℕ
 advance_text moving = advance_lines moving.session (next_forward moving.stage)
 
 -- the move is at its next stage; at its end the pending host has the first one's place
-abbrev pub after_advance : TabletMove → Option Stage → Course → Course
-after_advance moving (Some stage) course = record course {
+abbrev pub course_after_advance : TabletMove → Option Stage → Course → Course
+course_after_advance moving (Some stage) course = record course {
   steps = course.steps + 1;
   moving = Some (record moving { stage = stage });
 }
-after_advance moving None course = record course {
+course_after_advance moving None course = record course {
   steps = course.steps + 1;
   replicas = slice_set course.replicas moving.tablet (slice_set (hosts_of course moving.tablet) 0 moving.pending);
   moving = None;
@@ -73,9 +74,9 @@ abbrev pub step_text : Option TabletMove → Course → List ℕ
 step_text None course = start_text course
 step_text (Some moving) course = advance_text moving
 
-abbrev pub after_step : Option TabletMove → Course → Course
-after_step None course = after_start course
-after_step (Some moving) course = after_advance moving (next_forward moving.stage) course
+abbrev pub course_after_step : Option TabletMove → Course → Course
+course_after_step None course = course_after_start course
+course_after_step (Some moving) course = course_after_advance moving (next_forward moving.stage) course
 
 -- the text of a round after its action is drawn
 abbrev pub action_text : Action → ℕ → Course → List ℕ
@@ -84,22 +85,22 @@ action_text Read round course = read_line course.generator
 action_text Delete round course = delete_line round course.generator
 action_text Step round course = step_text course.moving course
 
-abbrev pub after_action : Action → Course → Course
-after_action Write course = record course { generator = after_draws 3 course.generator }
-after_action Read course = record course { generator = after_draws 2 course.generator }
-after_action Delete course = record course { generator = after_draws 2 course.generator }
-after_action Step course = after_step course.moving course
+abbrev pub course_after_action : Action → Course → Course
+course_after_action Write course = record course { generator = generator_after 3 course.generator }
+course_after_action Read course = record course { generator = generator_after 2 course.generator }
+course_after_action Delete course = record course { generator = generator_after 2 course.generator }
+course_after_action Step course = course_after_step course.moving course
 
 -- the action of the next round, and the course once it is drawn
 abbrev pub next_action : Course → Action
-next_action course = action_of (drawn 0 8 course.generator)
+next_action course = action_of (drawn_number 0 8 course.generator)
 
-abbrev pub once_drawn : Course → Course
-once_drawn course = record course { generator = after_draws 1 course.generator }
+abbrev pub course_after_draw : Course → Course
+course_after_draw course = record course { generator = generator_after 1 course.generator }
 
 -- the text of a round, and the course after it
 abbrev pub round_text : ℕ → Course → List ℕ
-round_text round course = action_text (next_action course) round (once_drawn course)
+round_text round course = action_text (next_action course) round (course_after_draw course)
 
 abbrev pub next_course : Course → Course
-next_course course = after_action (next_action course) (once_drawn course)
+next_course course = course_after_action (next_action course) (course_after_draw course)

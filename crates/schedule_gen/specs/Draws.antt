@@ -11,17 +11,17 @@ generator_of n = started 64 multiplier_64 n (increment_of 64 1)
 unfoldable pub next_word : Lcg → ℕ
 next_word generator = (pcg32 generator).0
 
-unfoldable pub after_word : Lcg → Lcg
-after_word generator = (pcg32 generator).1
+unfoldable pub next_generator : Lcg → Lcg
+next_generator generator = (pcg32 generator).1
 
 -- the generator after so many draws
-abbrev pub after_draws : ℕ → Lcg → Lcg
-after_draws zero generator = generator
-after_draws (suc n) generator = after_draws n (after_word generator)
+abbrev pub generator_after : ℕ → Lcg → Lcg
+generator_after zero generator = generator
+generator_after (suc n) generator = generator_after n (next_generator generator)
 
 -- the draw below this number that comes after so many other draws: the word there, modulo the number
-abbrev pub drawn : ℕ → ℕ → Lcg → ℕ
-drawn draws below generator = next_word (after_draws draws generator) % below
+abbrev pub drawn_number : ℕ → ℕ → Lcg → ℕ
+drawn_number draws below generator = next_word (generator_after draws generator) % below
 
 -- one of 64 tokens that are spread evenly over the ring
 abbrev pub token_of : ℕ → ℤ

@@ -6,30 +6,38 @@ use Rattle.rand_pcg.specs.Lcg.{Lcg}
 use Rattle.stage_graph.specs.declared.stage.Stage.{Stage}
 use Rattle.stage_graph.specs.declared.stage.Stage.TheVariants.{AllowWriteBothReadOld, WriteBothReadOld, Streaming, WriteBothReadNew, UseNew, Cleanup, EndMigration, FallbackCleanup, CleanupTarget, RevertMigration}
 use Rattle.stage_graph.specs.Words.{word}
-use Rattle.schedule_gen.specs.Draws.{drawn, token_of}
+use Rattle.schedule_gen.specs.Draws.{drawn_number, token_of}
 
 -- Five hosts with a lane each, and table 1 with four tablets of three replicas.
 unfoldable pub header : List ℕ
 header =
-    codes "tablets 1\nhosts 5\nlanes 1\ntable 1 2 0:0 1:0 2:0\ntablet 1 1 1:0 2:0 3:0\ntablet 1 2 2:0 3:0 4:0\ntablet 1 3 3:0 4:0 0:0\ngo\n"
+    codes "tablets 1\n"
+    ++ codes "hosts 5\n"
+    ++ codes "lanes 1\n"
+    ++ codes "table 1 2 0:0 1:0 2:0\n"
+    ++ codes "tablet 1 1 1:0 2:0 3:0\n"
+    ++ codes "tablet 1 2 2:0 3:0 4:0\n"
+    ++ codes "tablet 1 3 3:0 4:0 0:0\n"
+    ++ codes "go\n"
 
 -- A client asks a drawn host to write, read or delete at a drawn token. What is written is a drawn byte, and the
 -- timestamp is the number of the round.
 abbrev pub write_line : ℕ → Lcg → List ℕ
 write_line round generator =
-    codes "do " ++ (decimal (drawn 0 5 generator)
-    ++ (codes ".0 write 1 " ++ (signed_decimal (token_of (drawn 1 64 generator))
-    ++ (codes " live:" ++ (decimal round ++ (codes ":" ++ (encode_lower (drawn 2 256 generator ∷ []) ++ codes "\n")))))))
+    codes "do " ++ (decimal (drawn_number 0 5 generator)
+    ++ (codes ".0 write 1 " ++ (signed_decimal (token_of (drawn_number 1 64 generator))
+    ++ (codes " live:" ++ (decimal round
+    ++ (codes ":" ++ (encode_lower (drawn_number 2 256 generator ∷ []) ++ codes "\n")))))))
 
 abbrev pub read_line : Lcg → List ℕ
 read_line generator =
-    codes "do " ++ (decimal (drawn 0 5 generator)
-    ++ (codes ".0 read 1 " ++ (signed_decimal (token_of (drawn 1 64 generator)) ++ codes "\n")))
+    codes "do " ++ (decimal (drawn_number 0 5 generator)
+    ++ (codes ".0 read 1 " ++ (signed_decimal (token_of (drawn_number 1 64 generator)) ++ codes "\n")))
 
 abbrev pub delete_line : ℕ → Lcg → List ℕ
 delete_line round generator =
-    codes "do " ++ (decimal (drawn 0 5 generator)
-    ++ (codes ".0 write 1 " ++ (signed_decimal (token_of (drawn 1 64 generator))
+    codes "do " ++ (decimal (drawn_number 0 5 generator)
+    ++ (codes ".0 write 1 " ++ (signed_decimal (token_of (drawn_number 1 64 generator))
     ++ (codes " dead:" ++ (decimal round ++ (codes ":" ++ (decimal round ++ codes "\n")))))))
 
 -- A move of the tablet starts, from a leaving to a pending host.
@@ -61,4 +69,5 @@ before_advance session (Some RevertMigration) = []
 -- A move goes to a stage, or ends.
 abbrev pub advance_lines : ℕ → Option Stage → List ℕ
 advance_lines session to =
-    before_advance session to ++ (codes "step 0 advance " ++ (decimal session ++ (codes " " ++ (target_word to ++ codes "\n"))))
+    before_advance session to
+    ++ (codes "step 0 advance " ++ (decimal session ++ (codes " " ++ (target_word to ++ codes "\n"))))

@@ -2,7 +2,7 @@
 ghost use Rattle.std.specs.Prelude.{◌≡◌, ◌<◌, ◌+◌, ◌^◌, IfOk, OnOk, IfSome, find};
 ghost use Rattle.std.specs.String.{string_bytes};
 ghost use Rattle.schedule_gen.specs.Moves.{next_forward, is_absent, least_absent};
-ghost use Rattle.schedule_gen.specs.Course.{action_of, hosts_of, opening_course, round_text, next_course, start_text, after_start, advance_text, after_advance};
+ghost use Rattle.schedule_gen.specs.Course.{action_of, hosts_of, opening_course, round_text, next_course, start_text, course_after_start, advance_text, course_after_advance};
 
 use crate::draws::{draw, generator_of};
 use crate::lines::{advance_lines, delete_line, read_line, start_line, write_line};
@@ -99,7 +99,7 @@ impl Course {
     fn start(&mut self, alloc: Global) -> Result<String, NoMemory>
         requires steps { self.old.steps + 1 < 2 ^ 32 }
         ensures text { IfOk result (λ text. string_bytes text ≡ start_text self.old) }
-        ensures after { self.new ≡ after_start self.old }
+        ensures after { self.new ≡ course_after_start self.old }
     {
         let tablet = draw(&mut self.generator, TABLETS);
         let hosts = self.hosts_of(tablet);
@@ -119,7 +119,7 @@ impl Course {
         requires steps { self.old.steps + 1 < 2 ^ 32 }
         requires tablet { moving.tablet < 4 }
         ensures text { IfOk result (λ text. string_bytes text ≡ advance_text moving) }
-        ensures after { self.new ≡ after_advance moving (next_forward moving.stage) self.old }
+        ensures after { self.new ≡ course_after_advance moving (next_forward moving.stage) self.old }
     {
         let to = next_forward(moving.stage);
         self.steps += 1;

@@ -1,6 +1,6 @@
 // Draws from the generator of a schedule.
 ghost use Rattle.std.specs.Prelude.{◌≡◌, ◌<◌};
-ghost use Rattle.schedule_gen.specs.Draws.{generator_of, drawn, after_draws};
+ghost use Rattle.schedule_gen.specs.Draws.{generator_of, drawn_number, generator_after};
 
 use rand_core::utils::NextWord;
 use rand_pcg::Lcg64Xsh32;
@@ -15,8 +15,8 @@ pub fn generator_of(n: u64) -> Lcg64Xsh32
 /// A number below `below`: the generator's next word modulo `below`.
 pub fn draw(generator: &mut Lcg64Xsh32, below: u32) -> u32
     requires { 0 < below }
-    ensures drawn { result ≡ drawn 0 below generator.old }
-    ensures after { generator.new ≡ after_draws 1 generator.old }
+    ensures drawn { result ≡ drawn_number 0 below generator.old }
+    ensures after { generator.new ≡ generator_after 1 generator.old }
     ensures fits { result < below }
 {
     generator.next_word() % below

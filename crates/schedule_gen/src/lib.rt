@@ -13,8 +13,15 @@ use course::Course;
 use std::alloc::Global;
 
 /// The lines before the first round: five hosts with a lane each, and a table of four tablets with three replicas.
-const HEADER: &str =
-    "tablets 1\nhosts 5\nlanes 1\ntable 1 2 0:0 1:0 2:0\ntablet 1 1 1:0 2:0 3:0\ntablet 1 2 2:0 3:0 4:0\ntablet 1 3 3:0 4:0 0:0\ngo\n";
+const HEADER: &str = "tablets 1
+hosts 5
+lanes 1
+table 1 2 0:0 1:0 2:0
+tablet 1 1 1:0 2:0 3:0
+tablet 1 2 2:0 3:0 4:0
+tablet 1 3 3:0 4:0 0:0
+go
+";
 
 /// How many rounds a schedule has.
 const ROUNDS: u16 = 1000;

@@ -1,7 +1,7 @@
 // The lines of a schedule.
 ghost use Rattle.std.specs.Prelude.{◌≡◌, ◌<◌, IfOk, OnOk, ℤ};
 ghost use Rattle.std.specs.String.{string_bytes};
-ghost use Rattle.schedule_gen.specs.Draws.{after_draws, token_of};
+ghost use Rattle.schedule_gen.specs.Draws.{generator_after, token_of};
 ghost use Rattle.schedule_gen.specs.Lines.{write_line, read_line, delete_line, start_line, advance_lines, before_advance, target_word};
 
 use crate::draws::draw;
@@ -27,19 +27,19 @@ fn token_of(k: u32) -> i64
 /// The line of a round that writes a drawn byte to a drawn token.
 pub fn write_line(alloc: Global, round: u16, generator: &mut Lcg64Xsh32) -> Result<String, NoMemory>
     ensures line { IfOk result (λ line. string_bytes line ≡ write_line round generator.old) }
-    ensures draws { generator.new ≡ after_draws 3 generator.old }
+    ensures draws { generator.new ≡ generator_after 3 generator.old }
 {
     let host = draw(generator, HOSTS);
     let token = token_of(draw(generator, TOKENS));
     let byte = draw(generator, 256) as u8;
-    let byte = hex::encode(alloc, [byte].as_slice())?;
-    Ok(format!(in alloc; "do {host}.0 write 1 {token} live:{round}:{byte}\n")?)
+    let digits = hex::encode(alloc, [byte].as_slice())?;
+    Ok(format!(in alloc; "do {host}.0 write 1 {token} live:{round}:{digits}\n")?)
 }
 
 /// The line of a round that reads a drawn token.
 pub fn read_line(alloc: Global, generator: &mut Lcg64Xsh32) -> Result<String, NoMemory>
     ensures line { IfOk result (λ line. string_bytes line ≡ read_line generator.old) }
-    ensures draws { generator.new ≡ after_draws 2 generator.old }
+    ensures draws { generator.new ≡ generator_after 2 generator.old }
 {
     let host = draw(generator, HOSTS);
     let token = token_of(draw(generator, TOKENS));
@@ -53,7 +53,7 @@ pub fn delete_line(
     generator: &mut Lcg64Xsh32,
 ) -> Result<String, NoMemory>
     ensures line { IfOk result (λ line. string_bytes line ≡ delete_line round generator.old) }
-    ensures draws { generator.new ≡ after_draws 2 generator.old }
+    ensures draws { generator.new ≡ generator_after 2 generator.old }
 {
     let host = draw(generator, HOSTS);
     let token = token_of(draw(generator, TOKENS));

@@ -1,4 +1,4 @@
-use Rattle.std.proofs.Common.{◌≡◌, ◌+◌, ◌<◌, ◌∙◌, ap, sym, subst, arith}
+use Rattle.std.proofs.Common.{◌≡◌, ◌∙◌, ap, sym, subst, arith}
 use Rattle.schedule_gen.specs.Course.{next_course}
 use Rattle.std.specs.String.{string_bytes}
 use Rattle.schedule_gen.specs.declared.course.Course.{Course}
