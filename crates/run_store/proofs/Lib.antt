@@ -3,3 +3,5 @@ pub mod GroupLemmas
 pub mod ChunkLemmas
 pub mod LoopLemmas
 pub mod RegroupLemmas
+pub mod TabletLemmas
+pub mod StoreLemmas

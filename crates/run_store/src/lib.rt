@@ -5,6 +5,8 @@ mod chunks;
 mod regrouping;
 mod run;
 mod runs;
+mod store;
 mod table;
 
+pub use store::index_of;
 pub use table::TableRuns;
