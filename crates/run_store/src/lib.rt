@@ -7,6 +7,7 @@ mod run;
 mod runs;
 mod store;
 mod table;
+mod tables;
 
-pub use store::index_of;
-pub use table::TableRuns;
+pub use store::RunStore;
+pub use tables::get;
