@@ -10,4 +10,3 @@ mod table;
 mod tables;
 
 pub use store::RunStore;
-pub use tables::get;
