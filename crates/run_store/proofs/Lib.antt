@@ -5,3 +5,4 @@ pub mod LoopLemmas
 pub mod RegroupLemmas
 pub mod TabletLemmas
 pub mod StoreLemmas
+pub mod AdoptLemmas

@@ -101,10 +101,10 @@ cells_of-ordered (g ∷ gs) rest t are ordered =
     ]
 
 -- the cells of one table
-abbrev of_one : TableId → Cells → Cells
+abbrev pub of_one : TableId → Cells → Cells
 of_one t xs = filter (λ e. e.0.0 == t.0) xs
 
-cell_at-of_one : (table : TableId) (xs : Cells) (t : TableId) (k : Token) → cell_at (of_one table xs) t k ≡ cond (table.0 == t.0) (cell_at xs t k) None
+pub cell_at-of_one : (table : TableId) (xs : Cells) (t : TableId) (k : Token) → cell_at (of_one table xs) t k ≡ cond (table.0 == t.0) (cell_at xs t k) None
 cell_at-of_one table [] t k = elim (table.0 == t.0) as (λ b. (let missing : Option Cell = None in missing) ≡ cond b None None) [ true ↦ refl | false ↦ refl ]
 cell_at-of_one table (x ∷ xs) t k =
     elim (x.0.0 == table.0) as (λ b. (x.0.0 == table.0) ≡ b → cell_at (cond b (x ∷ of_one table xs) (of_one table xs)) t k ≡ cond (table.0 == t.0) (cell_at (x ∷ xs) t k) None) [
@@ -119,7 +119,7 @@ cell_at-of_one table (x ∷ xs) t k =
     ] refl
 
 -- lists in order that have the same cells of a table
-of_one-same : (t : TableId) (xs ys : Cells) → IsOrdered xs → IsOrdered ys → ((k : Token) → cell_at xs t k ≡ cell_at ys t k) → of_one t xs ≡ of_one t ys
+pub of_one-same : (t : TableId) (xs ys : Cells) → IsOrdered xs → IsOrdered ys → ((k : Token) → cell_at xs t k ≡ cell_at ys t k) → of_one t xs ≡ of_one t ys
 of_one-same t xs ys left right same =
     one_list (of_one t xs) (of_one t ys) (IsOrdered-filter (λ e. e.0.0 == t.0) xs left) (IsOrdered-filter (λ e. e.0.0 == t.0) ys right)
     (λ u k. cell_at-of_one t xs u k ∙ elim (t.0 == u.0) as (λ b. (t.0 == u.0) ≡ b → cond b (cell_at xs u k) None ≡ cond b (cell_at ys u k) None) [

@@ -102,6 +102,7 @@ impl RunStore {
     fn adopt(&mut self, table: TableId) -> Result<(), NoMemory>
         ensures map { self.new.cells ≡ self.old.cells }
         ensures runs { (t : TableId) → log2_of self.new.log2s t ≡ log2_of self.old.log2s t }
+        ensures few { log2_of self.new.log2s table ≤ 10 }
     {
         tables::adopt(self.alloc, &mut self.tables, &mut self.rest, table)?;
         Ok(())

@@ -131,6 +131,7 @@ impl TableRuns {
         requires { self.old.log2 < 10 }
         ensures table { self.new.table ≡ self.old.table }
         ensures cells { self.new.cells ≡ self.old.cells }
+        ensures few { self.new.log2 ≤ 10 }
         ensures ok { OnOk result (self.new.log2 ≡ self.old.log2 + 1) }
         ensures err { OnErr result (self.new ≡ self.old) }
     {
@@ -144,6 +145,7 @@ impl TableRuns {
         requires { 0 < self.old.log2 }
         ensures table { self.new.table ≡ self.old.table }
         ensures cells { self.new.cells ≡ self.old.cells }
+        ensures few { self.new.log2 ≤ 10 }
         ensures ok { OnOk result (self.new.log2 + 1 ≡ self.old.log2) }
         ensures err { OnErr result (self.new ≡ self.old) }
     {

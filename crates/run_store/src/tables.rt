@@ -1,5 +1,5 @@
 //! Tables with runs of their own, and one sorted list for the rest.
-ghost use Rattle.std.specs.Prelude.{◌≡◌, ◌≢◌, ◌↔◌, ℕ, ◌+◌, ◌^◌, ◌<◌, ◌≤◌, [], true, length, take, IsTrue, IfOk, OnOk, OnErr};
+ghost use Rattle.std.specs.Prelude.{◌≡◌, ◌≢◌, ◌↔◌, ℕ, ◌+◌, ◌^◌, ◌<◌, ◌≤◌, [], ◌∷◌, ◌++◌, true, length, take, IsTrue, IfOk, OnOk, OnErr};
 ghost use Rattle.std.specs.Option.{option_copied};
 ghost use Rattle.base_ids.specs.declared.ids.TableId.{TableId};
 ghost use Rattle.cell_merge.specs.Cell.{greater_cell};
@@ -158,11 +158,20 @@ pub fn adopt(
         return Ok(at);
     }
     let own = TableRuns::new(alloc, table, rest.range(table, whole()))?;
-    if tables.push(own).is_err() {
-        return Err(NoMemory);
-    }
+    push(tables, own)?;
     rest.drop_range(table, whole());
     Ok(at)
+}
+
+/// Adds a table at the end.
+fn push(tables: &mut Vec<TableRuns>, own: TableRuns) -> Result<(), NoMemory>
+    ensures ok { OnOk result (tables.new.items ≡ tables.old.items ++ own ∷ []) }
+    ensures err { OnErr result (tables.new.items ≡ tables.old.items) }
+{
+    match tables.push(own) {
+        Ok(()) => Ok(()),
+        Err(_) => Err(NoMemory),
+    }
 }
 
 /// Gives a table twice as many runs.
