@@ -18,7 +18,6 @@ use Rattle.cluster_history.specs.declared.data.Entry.{Entry}
 use Rattle.cluster_history.specs.declared.data.Event.TheVariants.{Begin, Restart}
 use Rattle.cluster_history.specs.declared.data.Operation.{Operation}
 use Rattle.cluster_history.specs.declared.data.Output.{Output}
-use Rattle.topo_state.specs.After.{after}
 use Rattle.history_facts.proofs.NameLemmas.{same_lane-refl, same_op-same}
 
 abbrev AreUpTo : ℕ → List OpId → Type 0
