@@ -137,8 +137,8 @@ CameTo ending outcome before after = IsSaid ending outcome before after ⊎ IsSt
 abbrev pub NoFault : SourceAccount → SourceAccount → Type 0
 NoFault before after = after.faults ≡ before.faults
 
--- what came of a call that reads: no call of the source failed, and what was to come of the text came; or one failed, the
--- source's count of faults rose, and that is said
+-- what came of a call that reads: no call of the source failed, and what was to come of the text came; or one failed,
+-- the source's count of faults rose, and that is said
 abbrev pub Answers : Ending → Outcome → SourceAccount → SourceAccount → SinkAccount → SinkAccount → Type 0
 Answers ending outcome source_before source_after before after =
     (NoFault source_before source_after × CameTo ending outcome before after)
@@ -148,7 +148,8 @@ Answers ending outcome source_before source_after before after =
 abbrev pub command_ending : List (List ℕ) → List ℕ → Ending
 command_ending words text = if is_play words then ending_of text else usage_ending
 
--- just these bytes were taken, and what was to come of them came; where they are more than are read no memory is asked for
+-- just these bytes were taken, and what was to come of them came; where they are more than are read no memory is asked
+-- for
 pub record IsAnswer (taken : List ℕ) (ending : Ending) (outcome : Outcome) (source_before source_after : SourceAccount)
     (before after : SinkAccount) : Type 0 where
   pub bytes : TakesBytes source_before source_after taken

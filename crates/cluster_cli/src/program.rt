@@ -91,7 +91,8 @@ fn say<K: Sink>(sink: &mut K, line: &[u8], status: Status, journal: Journal) -> 
 
 /// Writes the lines one after the other.
 fn write_lines<K: Sink>(sink: &mut K, lines: &[Line]) -> Result<(), WriteFault>
-    ensures whole { OnOk result ((K.account sink.new).content ≡ content_after (K.account sink.old).content (concat lines.now)) }
+    ensures whole { OnOk result ((K.account sink.new).content
+        ≡ content_after (K.account sink.old).content (concat lines.now)) }
     ensures part { OnErr result (AddsPart (K.account sink.old) (K.account sink.new) (concat lines.now)) }
     ensures later { (K.account sink.old).faults ≤ (K.account sink.new).faults }
     ensures cause { OnErr result (Rose (K.account sink.old).faults (K.account sink.new).faults) }
@@ -245,17 +246,17 @@ fn not_read<K: Sink>(alloc: Global, error: ReadError, sink: &mut K) -> Outcome
     }
 }
 
-/// Reads a schedule, plays it and writes its report. How it ends is a function of the text, which is what the source tells
-/// as its content, or else the bytes that it gives: with status 0 and the report; 3 and the line at fault; 4, the replies so
-/// far, and the line whose event is not enabled with the first rule that it breaks; or 7 where more than 4194304 bytes
-/// come. A read fault gives 5, and wins over what the text says; a failed write gives 6 and leaves a part of what was to be
-/// written. Want of memory may give 8 while the text is read or played, and then some of the first bytes were written, and
-/// the journal has some of the first entries of the play.
+/// Reads a schedule, plays it and writes its report. How it ends is a function of the text, which is what the source
+/// tells as its content, or else the bytes that it gives: with status 0 and the report; 3 and the line at fault; 4,
+/// the replies so far, and the line whose event is not enabled with the first rule that it breaks; or 7 where more
+/// than 4194304 bytes come. A read fault gives 5, and wins over what the text says; a failed write gives 6 and leaves
+/// a part of what was to be written. Want of memory may give 8 while the text is read or played, and then some of the
+/// first bytes were written, and the journal has some of the first entries of the play.
 pub fn play_main<S: Source, K: Sink>(alloc: Global, source: &mut S, sink: &mut K) -> Outcome
-    // The journal that is kept is a legal run. In it a read returns none or a cell that a write of its key began with, and
-    // nothing below a write of its key that was acknowledged before it began; a request is stale only below fences of as
-    // many hosts as leave too few, and given up only where fewer replicas than required had answered; and what clients saw
-    // is a run of the register machine.
+    // The journal that is kept is a legal run. In it a read returns none or a cell that a write of its key began with,
+    // and nothing below a write of its key that was acknowledged before it began; a request is stale only below fences
+    // of as many hosts as leave too few, and given up only where fewer replicas than required had answered; and what
+    // clients saw is a run of the register machine.
     ensures legal { IsLegalRun result.journal }
     ensures headline { IsHeadline result.journal }
 
@@ -299,18 +300,18 @@ fn is_play(words: &Words) -> bool
     }
 }
 
-/// Does what the words say: `play` is `play_main`, and other words give the usage line and status 2, whatever the source
-/// has; then nothing is read.
+/// Does what the words say: `play` is `play_main`, and other words give the usage line and status 2, whatever the
+/// source has; then nothing is read.
 pub fn cluster_main<S: Source, K: Sink>(
     alloc: Global,
     words: &Words,
     source: &mut S,
     sink: &mut K,
 ) -> Outcome
-    // The journal that is kept is a legal run. In it a read returns none or a cell that a write of its key began with, and
-    // nothing below a write of its key that was acknowledged before it began; a request is stale only below fences of as
-    // many hosts as leave too few, and given up only where fewer replicas than required had answered; and what clients saw
-    // is a run of the register machine.
+    // The journal that is kept is a legal run. In it a read returns none or a cell that a write of its key began with,
+    // and nothing below a write of its key that was acknowledged before it began; a request is stale only below fences
+    // of as many hosts as leave too few, and given up only where fewer replicas than required had answered; and what
+    // clients saw is a run of the register machine.
     ensures legal { IsLegalRun result.journal }
     ensures headline { IsHeadline result.journal }
 

@@ -22,17 +22,17 @@ pub returns-else-is_play-clause-taken : goal.returns-else-is_play-clause-taken
 returns-else-is_play-clause-taken g c = (
   [],
   answer-usage
-  c.args.words.now
-  _
-  _
-  _
-  (g.S.Source.account c.args.source.now)
-  _
-  _
-  (sym c.is_play.ensures ∙ c.if-is_play.false)
-  c.no_journal.ensures
-  refl
-  c.say-outcome.ensures.came,
+      c.args.words.now
+      _
+      _
+      _
+      (g.S.Source.account c.args.source.now)
+      _
+      _
+      (sym c.is_play.ensures ∙ c.if-is_play.false)
+      c.no_journal.ensures
+      refl
+      c.say-outcome.ensures.came,
 )
 
 pub returns-then-is_play-clause-told : goal.returns-then-is_play-clause-told
