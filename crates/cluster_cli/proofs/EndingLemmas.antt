@@ -114,6 +114,33 @@ came-front-of error whole after journal outcome a ended is same starved =
     let F : Journal → Type 0 = λ j. IsFrontOf j whole.journal in
     came-front (play_ending whole) journal outcome a starved (ending-front whole journal (subst F (sym same) (subst E is ended)))
 
+-- ---- the journal at each status
+
+-- the journal that is kept after a play has some of the first entries of the play: all of them at its end
+pub ended-front : (whole : Played) (after journal : Journal) (outcome : Outcome)
+    → whole ≡ record { journal = after; stop = None } → journal ≡ after → outcome.journal ≡ journal
+    → IsFrontOf outcome.journal whole.journal
+ended-front whole after journal outcome played same kept =
+    subst (λ j. IsFrontOf outcome.journal j) (kept ∙ same ∙ sym (ap (λ w. w.journal) played)) (front-of-itself outcome.journal)
+
+-- those before the line where it stopped
+pub stopped-front : (error : PlayError) (line : ℕ) (rule : EventRule) (whole : Played) (after journal : Journal) (outcome : Outcome)
+    → IsPlay (Err error) after whole → error ≡ PlayNotEnabled line rule → journal ≡ after → outcome.journal ≡ journal
+    → IsFrontOf outcome.journal whole.journal
+stopped-front error line rule whole after journal outcome ended is same kept =
+    let E : PlayError → Type 0 = λ e. IsPlay (Err e) after whole in
+    let stopped : whole ≡ record { journal = after; stop = Some (record { line = line; rule = rule }) } = subst E is ended in
+    subst (λ j. IsFrontOf outcome.journal j) (kept ∙ same ∙ sym (ap (λ w. w.journal) stopped)) (front-of-itself outcome.journal)
+
+-- some where memory was refused
+pub starved-front : (error : PlayError) (whole : Played) (after journal : Journal) (outcome : Outcome)
+    → IsPlay (Err error) after whole → error ≡ PlayNoMemory → journal ≡ after
+    → outcome ≡ record { status = status_number NoMemory; journal = journal } → IsFrontOf outcome.journal whole.journal
+starved-front error whole after journal outcome ended is same starved =
+    let E : PlayError → Type 0 = λ e. IsPlay (Err e) after whole in
+    let F : Journal → Type 0 = λ j. IsFrontOf j whole.journal in
+    subst F (sym (ap (λ o. o.journal) starved ∙ same)) (subst E is ended)
+
 -- ---- the words
 
 -- words that are no command are told, whatever the text

@@ -5,7 +5,7 @@ ghost use Rattle.fault_io.specs.Counts.{Rose};
 ghost use Rattle.fault_io.specs.Written.{content_after, AddsPart};
 ghost use Rattle.cluster_history.specs.Legal.{IsLegalRun, opening_journal};
 ghost use Rattle.overlap_law.specs.Headline.{IsHeadline};
-ghost use Rattle.cluster_cli.specs.Play.{Stop, played};
+ghost use Rattle.cluster_cli.specs.Play.{IsFrontOf, Stop, played};
 ghost use Rattle.cluster_cli.specs.Program.{no_journal, refused_line, stopped_lines, play_ending, reading_ending, ending_of, command_ending, usage_ending, is_play, IsSaid, CameTo, CameToError, NoFault, Answers, IsAnswer};
 ghost use Rattle.cluster_cli.specs.Report.{report};
 ghost use Rattle.cluster_cli.specs.Schedule.{IsPlayable};
@@ -200,6 +200,30 @@ fn refuse<K: Sink>(alloc: Global, line: u64, rule: TextRule, sink: &mut K) -> Ou
     }
 }
 
+/// Plays a schedule on a machine that nothing has happened to, and writes what came of it. At each status the journal has
+/// some of the first entries of the play.
+fn play_on<K: Sink>(
+    alloc: Global,
+    schedule: &Schedule,
+    mut machine: Machine,
+    sink: &mut K,
+) -> Outcome
+    requires playable { IsPlayable schedule.now }
+    requires fresh { machine ≡ opening_journal schedule.now.opening }
+    ensures came { CameTo (play_ending (played schedule.now)) result (K.account sink.old) (K.account sink.new) }
+    ensures front { IsFrontOf result.journal (played schedule.now).journal }
+    ensures legal { IsLegalRun result.journal }
+    ensures later { (K.account sink.old).faults ≤ (K.account sink.new).faults }
+{
+    match play(alloc, schedule, &mut machine) {
+        Ok(()) => report_whole(alloc, machine.into_journal(), sink),
+        Err(PlayError::NotEnabled { line, rule }) => {
+            report_stop(alloc, machine.into_journal(), line, rule, sink)
+        }
+        Err(PlayError::NoMemory) => starved(machine.into_journal()),
+    }
+}
+
 /// Plays a schedule and writes what came of it.
 fn play_schedule<K: Sink>(alloc: Global, schedule: &Schedule, sink: &mut K) -> Outcome
     requires { IsPlayable schedule.now }
@@ -207,15 +231,9 @@ fn play_schedule<K: Sink>(alloc: Global, schedule: &Schedule, sink: &mut K) -> O
     ensures legal { IsLegalRun result.journal }
     ensures later { (K.account sink.old).faults ≤ (K.account sink.new).faults }
 {
-    let Ok(mut machine) = machine_of(alloc, schedule) else {
-        return starved(no_journal(alloc));
-    };
-    match play(alloc, schedule, &mut machine) {
-        Ok(()) => report_whole(alloc, machine.into_journal(), sink),
-        Err(PlayError::NotEnabled { line, rule }) => {
-            report_stop(alloc, machine.into_journal(), line, rule, sink)
-        }
-        Err(PlayError::NoMemory) => starved(machine.into_journal()),
+    match machine_of(alloc, schedule) {
+        Ok(machine) => play_on(alloc, schedule, machine, sink),
+        Err(NoMemory) => starved(no_journal(alloc)),
     }
 }
 
