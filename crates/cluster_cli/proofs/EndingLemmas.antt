@@ -1,13 +1,13 @@
 -- What came of a call, where its ending is told in other words.
-use Rattle.std.proofs.Common.{◌≡◌, ℕ, ◌<◌, List, Option, None, Some, Result, Err, length, refl, ap, sym, ◌∙◌, subst, arith, inl, inr, true, false, append-nil, if◌then◌else◌, []}
+use Rattle.std.proofs.Common.{◌≡◌, ℕ, List, Option, None, Some, Result, Err, refl, ap, sym, ◌∙◌, subst, arith, inl, inr, true, false, append-nil, if◌then◌else◌, []}
 use Rattle.std.specs.Option.{IfSome}
 use Rattle.fault_io.specs.Counts.{SinkAccount, SourceAccount}
-use Rattle.fault_io.specs.Given.{before_left, TakesBytes}
+use Rattle.fault_io.specs.Given.{before_left}
 use Rattle.fault_io.specs.Written.{content_after}
 use Rattle.base_ids.specs.declared.rules.EventRule.{EventRule}
 use Rattle.cluster_history.specs.declared.data.Journal.{Journal}
 use Rattle.cluster_cli.specs.Play.{Played, Stop, IsFrontOf, IsPlay, played}
-use Rattle.cluster_cli.specs.Program.{Ending, no_journal, ending_at, play_ending, reading_ending, ending_of, usage_ending, command_ending, input_limit, is_play, IsSaid, CameTo, Answers, IsAnswer}
+use Rattle.cluster_cli.specs.Program.{Ending, no_journal, ending_at, play_ending, reading_ending, ending_of, usage_ending, command_ending, is_play, IsSaid, CameTo, Answers, IsAnswer}
 use Rattle.cluster_cli.specs.Status.{status_number}
 use Rattle.cluster_cli.specs.Text.{Fails}
 use Rattle.cluster_cli.specs.declared.text.ParseError.{ParseError}
