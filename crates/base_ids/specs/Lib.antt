@@ -1,1 +1,3 @@
+pub mod Names
+pub mod Replicas
 pub mod Rules

@@ -31,15 +31,15 @@ pub struct LaneId {
 pub struct TableId(pub u32);
 
 /// A version of the topology, from 1. Requests and fences carry one.
-#[derive(Clone, Copy, Debug, PartialEq, Eq, PartialOrd, Ord)]
+#[derive(Clone, Copy, Debug, PartialEq, Eq, PartialOrd, Ord, Hash)]
 pub struct Version(pub u64);
 
 /// The id of a state of group 0: the count of its accepted entries, where ScyllaDB uses time UUIDs.
-#[derive(Clone, Copy, Debug, PartialEq, Eq, PartialOrd, Ord)]
+#[derive(Clone, Copy, Debug, PartialEq, Eq, PartialOrd, Ord, Hash)]
 pub struct StateId(pub u64);
 
 /// A session of a tablet transition, or the number of a resize: the log index of its command.
-#[derive(Clone, Copy, Debug, PartialEq, Eq, PartialOrd, Ord)]
+#[derive(Clone, Copy, Debug, PartialEq, Eq, PartialOrd, Ord, Hash)]
 pub struct Session(pub u64);
 
 /// The number of an operation of a lane, from 1 in the order of their begins.

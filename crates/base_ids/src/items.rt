@@ -1,5 +1,5 @@
 // One list type for every list of the surface. Contracts see it as a list.
-ghost use Rattle.std.specs.Prelude.{◌≡◌, ◌++◌, ◌∷◌, ◌-◌, [], length, take, slice_set, IfSome, OnOk, OnErr, option_to_list, IsNone, ◌↔◌};
+ghost use Rattle.std.specs.Prelude.{◌≡◌, ◌++◌, ◌∷◌, ◌-◌, [], length, take, slice_set, IfSome, OnOk, OnErr, option_to_list, IsNone, ◌↔◌, IfOk};
 
 use crate::memory::NoMemory;
 use std::alloc::Global;
@@ -80,4 +80,32 @@ impl<T: Drop> Items<T> {
         self.items.push(item)?;
         Ok(())
     }
+}
+
+impl<T: Copy> Items<T> {
+    /// An equal list.
+    pub fn clone_in(&self, alloc: Global) -> Result<Items<T>, NoMemory>
+        ensures { IfOk result (λ list. list ≡ self.now) }
+    {
+        let items = Vec::from_slice(alloc, self.items.as_slice())?;
+        Ok(Items { items })
+    }
+}
+
+impl<T: PartialEq> PartialEq for Items<T> {
+    ghost use Rattle.std.specs.Cmp.Lexicographic.{pointwise, lists_per};
+
+    ghost eq = { pointwise T.eq };
+
+    ghost laws = { lists_per T.laws };
+
+    fn eq(&self, other: &Items<T>) -> bool {
+        self.items == other.items
+    }
+}
+
+impl<T: Eq> Eq for Items<T> {
+    ghost use Rattle.std.specs.Cmp.Lexicographic.{lists_equiv};
+
+    ghost laws = { lists_equiv T.Eq.laws };
 }

@@ -19,6 +19,26 @@ pub enum EventRule {
     WrongMessage,
     /// The lane of a timeout has no such live request.
     NoRequest,
+    /// The host has applied the whole log.
+    NothingToApply,
+    /// The version of a quiet event is above that of the host.
+    VersionAhead,
+    /// A lane of the host has a live request below the version of a quiet event.
+    LiveBelow,
+    /// What a topo asks of a host does not hold there.
+    NotTrue,
+    /// The host's applied state has no such session that streams to this host.
+    NoStream,
+    /// The pull of the session is done.
+    PullOver,
+    /// A topo has no complete evidence for the version of the state that it has seen.
+    NoEvidence,
+    /// A topo has not heard that the pull of the session is done.
+    NoDone,
+    /// A topo has not heard that what the session leaves was cleaned.
+    NoCleaned,
+    /// A topo has not heard from each host of the table that it is ready for the split.
+    NoReady,
 }
 
 impl EventRule {
@@ -33,6 +53,16 @@ impl EventRule {
             EventRule::NoMessage => "NoMessage",
             EventRule::WrongMessage => "WrongMessage",
             EventRule::NoRequest => "NoRequest",
+            EventRule::NothingToApply => "NothingToApply",
+            EventRule::VersionAhead => "VersionAhead",
+            EventRule::LiveBelow => "LiveBelow",
+            EventRule::NotTrue => "NotTrue",
+            EventRule::NoStream => "NoStream",
+            EventRule::PullOver => "PullOver",
+            EventRule::NoEvidence => "NoEvidence",
+            EventRule::NoDone => "NoDone",
+            EventRule::NoCleaned => "NoCleaned",
+            EventRule::NoReady => "NoReady",
         }
     }
 }
@@ -42,6 +72,26 @@ impl EventRule {
 pub enum LimitName {
     /// At most 4194304 bytes are read.
     Input,
+    /// At most 64 hosts.
+    Hosts,
+    /// At most 4 lanes a host.
+    Lanes,
+    /// At most 16 shards a host.
+    Shards,
+    /// At most 64 tables in the header.
+    Tables,
+    /// At most 2^10 tablets in a table, wherever their logarithm is read.
+    Log2,
+    /// At most 1024 tablets in all tables of the header.
+    Tablets,
+    /// At most 8 replicas in one list.
+    Replicas,
+    /// At most 64 bytes in a live cell.
+    Value,
+    /// At most 1000000 entries of the journal.
+    Events,
+    /// At most 10000 accepted entries of the log.
+    Log,
 }
 
 impl LimitName {
@@ -51,6 +101,16 @@ impl LimitName {
     {
         match self {
             LimitName::Input => "input",
+            LimitName::Hosts => "hosts",
+            LimitName::Lanes => "lanes",
+            LimitName::Shards => "shards",
+            LimitName::Tables => "tables",
+            LimitName::Log2 => "log2",
+            LimitName::Tablets => "tablets",
+            LimitName::Replicas => "replicas",
+            LimitName::Value => "value",
+            LimitName::Events => "events",
+            LimitName::Log => "log",
         }
     }
 }

@@ -5,7 +5,7 @@ use Rattle.fault_io.specs.Counts.{SinkAccount, SourceAccount}
 use Rattle.fault_io.specs.Given.{before_left}
 use Rattle.fault_io.specs.Written.{content_after}
 use Rattle.base_ids.specs.declared.rules.EventRule.{EventRule}
-use Rattle.cluster_history.specs.declared.data.Journal.{Journal}
+use Rattle.path_history.specs.declared.data.Journal.{Journal}
 use Rattle.cluster_cli.specs.Play.{Played, Stop, IsFrontOf, IsPlay, played}
 use Rattle.cluster_cli.specs.Program.{Ending, no_journal, ending_at, play_ending, reading_ending, ending_of, usage_ending, command_ending, is_play, IsSaid, CameTo, Answers, IsAnswer}
 use Rattle.cluster_cli.specs.Status.{status_number}

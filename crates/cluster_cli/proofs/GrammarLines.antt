@@ -9,10 +9,10 @@ use Rattle.base_ids.specs.declared.ids.OpId.{OpId}
 use Rattle.base_ids.specs.declared.ids.Replica.{Replica}
 use Rattle.base_ids.specs.declared.ids.TableId.{TableId}
 use Rattle.token_ring.specs.declared.token.Token.{Token}
-use Rattle.cluster_history.specs.Openings.{has_distinct_hosts}
-use Rattle.cluster_history.specs.declared.data.Opening.{Opening}
-use Rattle.cluster_history.specs.declared.data.Operation.{Operation}
-use Rattle.cluster_history.specs.declared.data.Operation.TheVariants.{Write, Read}
+use Rattle.path_history.specs.Openings.{has_distinct_hosts}
+use Rattle.path_history.specs.declared.data.Opening.{Opening}
+use Rattle.path_history.specs.declared.data.Operation.{Operation}
+use Rattle.path_history.specs.declared.data.Operation.TheVariants.{Write, Read}
 use Rattle.cluster_cli.specs.declared.schedule.LineRef.{LineRef}
 use Rattle.cluster_cli.specs.declared.schedule.LineRef.TheVariants.{Line}
 use Rattle.cluster_cli.specs.declared.schedule.LineEvent.{LineEvent}

@@ -2,7 +2,7 @@
 use Rattle.std.proofs.Common.{◌≡◌, ℕ, ◌+◌, ◌==◌, ◌&&◌, not, Bool, true, false, cond, List, [], ◌∷◌, ◌++◌, append-nil, Option, Some, None, Ok, codes, bytes_eq, refl, sym, ap, subst, ◌∙◌}
 use Rattle.std.specs.List.{AllByRecursion, list_all}
 use Rattle.std.proofs.lemmas.Option.{cond_some, same_Some}
-use Rattle.cluster_history.specs.declared.data.Opening.{Opening}
+use Rattle.path_history.specs.declared.data.Opening.{Opening}
 use Rattle.cluster_cli.specs.declared.schedule.Schedule.{Schedule}
 use Rattle.cluster_cli.specs.declared.schedule.SchedLine.{SchedLine}
 use Rattle.cluster_cli.specs.declared.schedule.LineAct.TheVariants.{Event}

@@ -7,9 +7,9 @@ use Rattle.std.specs.Result.{IsErrAnd}
 use Rattle.std.specs.declared.hash.FoldHasher.{FoldHasher}
 use Rattle.std.specs.declared.hash.BuildHasherDefault.{BuildHasherDefault}
 use Rattle.base_ids.specs.declared.rules.EventRule.{EventRule}
-use Rattle.cluster_history.specs.Legal.{broken_after, with_event, entry_of, opening_journal}
-use Rattle.cluster_history.specs.declared.data.Journal.{Journal}
-use Rattle.cluster_history.specs.declared.data.Opening.{Opening}
+use Rattle.path_history.specs.Legal.{broken_after, with_event, entry_of, opening_journal}
+use Rattle.path_history.specs.declared.data.Journal.{Journal}
+use Rattle.path_history.specs.declared.data.Opening.{Opening}
 use Rattle.cluster_cli.specs.Schedule.{ArePlayable, IsPlayableAct}
 use Rattle.cluster_cli.specs.Play.{Places, Played, no_places, with_place, event_of_act, stopped_or, played_from, played, IsFrontOf, HasActorOfAct, places_in, IsLinePlay, IsPlay}
 use Rattle.cluster_cli.specs.declared.play.PlayError.{PlayError}

@@ -1,7 +1,7 @@
 -- What the loop over the lines behind the header keeps.
 use Rattle.std.proofs.Common.{◌≡◌, ℕ, suc, ◌+◌, ◌<◌, ◌≤◌, ◌==◌, ◌++◌, true, false, cond, List, [], ◌∷◌, length, Option, Some, None, Result, Ok, Err, refl, sym, ap, ◌∙◌, append_assoc, arith}
 use Rattle.std.proofs.lemmas.Option.{some_pair_parts}
-use Rattle.cluster_history.specs.declared.data.Opening.{Opening}
+use Rattle.path_history.specs.declared.data.Opening.{Opening}
 use Rattle.cluster_cli.specs.declared.schedule.SchedLine.{SchedLine}
 use Rattle.cluster_cli.specs.declared.schedule.LineAct.TheVariants.{Event}
 use Rattle.cluster_cli.specs.declared.schedule.LineEvent.{LineEvent}

@@ -10,8 +10,8 @@ use Rattle.base_ids.specs.declared.ids.HostId.{HostId}
 use Rattle.base_ids.specs.declared.ids.LaneId.{LaneId}
 use Rattle.base_ids.specs.declared.ids.Replica.{Replica}
 use Rattle.base_ids.specs.declared.ids.TableId.{TableId}
-use Rattle.cluster_history.specs.declared.data.Opening.{Opening}
-use Rattle.cluster_history.specs.Openings.{HasHost, HasLane, IsPlacedBelow, IsValidOpening, has_distinct_hosts}
+use Rattle.path_history.specs.declared.data.Opening.{Opening}
+use Rattle.path_history.specs.Openings.{HasHost, HasLane, IsPlacedBelow, IsValidOpening, has_distinct_hosts}
 use Rattle.cluster_cli.specs.declared.schedule.Schedule.{Schedule}
 use Rattle.cluster_cli.specs.declared.schedule.SchedLine.{SchedLine}
 use Rattle.cluster_cli.specs.declared.schedule.LineAct.TheVariants.{Event}

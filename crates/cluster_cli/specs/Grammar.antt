@@ -7,10 +7,10 @@ use Rattle.base_ids.specs.declared.ids.OpId.{OpId}
 use Rattle.base_ids.specs.declared.ids.Replica.{Replica}
 use Rattle.base_ids.specs.declared.ids.TableId.{TableId}
 use Rattle.base_ids.specs.declared.ids.Version.{Version}
-use Rattle.cluster_history.specs.Openings.{has_distinct_hosts}
-use Rattle.cluster_history.specs.declared.data.Opening.{Opening}
-use Rattle.cluster_history.specs.declared.data.Operation.{Operation}
-use Rattle.cluster_history.specs.declared.data.Operation.TheVariants.{Write, Read}
+use Rattle.path_history.specs.Openings.{has_distinct_hosts}
+use Rattle.path_history.specs.declared.data.Opening.{Opening}
+use Rattle.path_history.specs.declared.data.Operation.{Operation}
+use Rattle.path_history.specs.declared.data.Operation.TheVariants.{Write, Read}
 use Rattle.cluster_cli.specs.declared.schedule.Schedule.{Schedule}
 use Rattle.cluster_cli.specs.declared.schedule.SchedLine.{SchedLine}
 use Rattle.cluster_cli.specs.declared.schedule.LineAct.TheVariants.{Event}

@@ -6,13 +6,13 @@ use Rattle.std.specs.declared.hash.BuildHasherDefault.{BuildHasherDefault}
 use Rattle.std.specs.Prelude.{nat_eq}
 use Rattle.base_ids.specs.declared.ids.MsgRef.{MsgRef}
 use Rattle.base_ids.specs.declared.rules.EventRule.{EventRule}
-use Rattle.cluster_history.specs.History.{version_of}
-use Rattle.cluster_history.specs.Legal.{broken_after, with_event, opening_journal}
-use Rattle.cluster_history.specs.declared.data.Entry.{Entry}
-use Rattle.cluster_history.specs.declared.data.Event.{Event}
-use Rattle.cluster_history.specs.declared.data.Event.TheVariants.{Begin, Take, Timeout, Serve}
-use Rattle.cluster_history.specs.declared.data.Journal.{Journal}
-use Rattle.cluster_history.specs.declared.data.Opening.{Opening}
+use Rattle.path_history.specs.History.{version_of}
+use Rattle.path_history.specs.Legal.{broken_after, with_event, opening_journal}
+use Rattle.path_history.specs.declared.data.Entry.{Entry}
+use Rattle.path_history.specs.declared.data.Event.{Event}
+use Rattle.path_history.specs.declared.data.Event.TheVariants.{Begin, Take, Timeout, Serve}
+use Rattle.path_history.specs.declared.data.Journal.{Journal}
+use Rattle.path_history.specs.declared.data.Opening.{Opening}
 use Rattle.cluster_cli.specs.Schedule.{HasActorOf}
 use Rattle.cluster_cli.specs.declared.schedule.Schedule.{Schedule}
 use Rattle.cluster_cli.specs.declared.schedule.SchedLine.{SchedLine}

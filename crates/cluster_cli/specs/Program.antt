@@ -10,9 +10,9 @@ use Rattle.fault_io.specs.Given.{TakesBytes}
 use Rattle.fault_io.specs.Written.{content_after, AddsPart}
 use Rattle.fault_io.specs.declared.reading.ReadError.{ReadError}
 use Rattle.fault_io.specs.declared.reading.ReadError.TheVariants.{ReadFault as SourceFault, TooLong, NoMemory as ReadNoMemory}
-use Rattle.cluster_history.specs.Legal.{opening_journal}
-use Rattle.cluster_history.specs.declared.data.Journal.{Journal}
-use Rattle.cluster_history.specs.declared.data.Opening.{Opening}
+use Rattle.path_history.specs.Legal.{opening_journal}
+use Rattle.path_history.specs.declared.data.Journal.{Journal}
+use Rattle.path_history.specs.declared.data.Opening.{Opening}
 use Rattle.cluster_cli.specs.Play.{IsFrontOf, Played, Stop, played}
 use Rattle.cluster_cli.specs.Report.{reply_lines, report}
 use Rattle.cluster_cli.specs.Status.{status_number}

@@ -13,12 +13,12 @@ use Rattle.stage_graph.specs.declared.kind.Kind.{Kind}
 use Rattle.stage_graph.specs.declared.kind.Kind.TheVariants.{Read as ReadKind, Write as WriteKind}
 use Rattle.quorum_ops.specs.declared.data.Reply.{Reply}
 use Rattle.quorum_ops.specs.declared.data.Reply.TheVariants.{Ok as Acknowledged, Read as Found, Stale, Timeout as TimedOut, NoTable, NotMember}
-use Rattle.cluster_history.specs.declared.data.Entry.{Entry}
-use Rattle.cluster_history.specs.declared.data.Event.{Event}
-use Rattle.cluster_history.specs.declared.data.Event.TheVariants.{Begin, Take, Timeout, Serve}
-use Rattle.cluster_history.specs.declared.data.Journal.{Journal}
-use Rattle.cluster_history.specs.declared.data.Output.{Output}
-use Rattle.cluster_history.specs.declared.data.Output.TheVariants.{Sent, Reply as Replied}
+use Rattle.path_history.specs.declared.data.Entry.{Entry}
+use Rattle.path_history.specs.declared.data.Event.{Event}
+use Rattle.path_history.specs.declared.data.Event.TheVariants.{Begin, Take, Timeout, Serve}
+use Rattle.path_history.specs.declared.data.Journal.{Journal}
+use Rattle.path_history.specs.declared.data.Output.{Output}
+use Rattle.path_history.specs.declared.data.Output.TheVariants.{Sent, Reply as Replied}
 
 -- a cell: its timestamp, and its bytes as two lower-case digits each or its time of deletion
 abbrev pub body_text : ℤ → Body → List ℕ

@@ -1,8 +1,8 @@
 -- Which schedules can be played: what the play takes for granted of a schedule that was read.
 use Rattle.std.specs.Prelude.{ℕ, ◌<◌, ◌==◌, Bool, List, [], ◌∷◌, IsTrue}
 use Rattle.std.specs.List.{list_any}
-use Rattle.cluster_history.specs.declared.data.Opening.{Opening}
-use Rattle.cluster_history.specs.Openings.{HasHost, HasLane, IsValidOpening}
+use Rattle.path_history.specs.declared.data.Opening.{Opening}
+use Rattle.path_history.specs.Openings.{HasHost, HasLane, IsValidOpening}
 use Rattle.cluster_cli.specs.declared.schedule.Schedule.{Schedule}
 use Rattle.cluster_cli.specs.declared.schedule.SchedLine.{SchedLine}
 use Rattle.cluster_cli.specs.declared.schedule.LineAct.{LineAct}

@@ -1,6 +1,6 @@
 -- What a schedule text says: a schedule, or the number of the first line that is of no built form.
 use Rattle.std.specs.Prelude.{◌≡◌, ℕ, ◌+◌, List, [], ◌∷◌, Option, Some, None, Result, Ok, Err, codes}
-use Rattle.cluster_history.specs.declared.data.Opening.{Opening}
+use Rattle.path_history.specs.declared.data.Opening.{Opening}
 use Rattle.cluster_cli.specs.declared.schedule.Schedule.{Schedule}
 use Rattle.cluster_cli.specs.declared.schedule.SchedLine.{SchedLine}
 use Rattle.cluster_cli.specs.declared.schedule.LineAct.TheVariants.{Event}

@@ -7,9 +7,9 @@ use Rattle.base_ids.specs.declared.ids.HostId.{HostId}
 use Rattle.base_ids.specs.declared.ids.LaneId.{LaneId}
 use Rattle.base_ids.specs.declared.ids.TableId.{TableId}
 use Rattle.token_ring.specs.declared.token.Token.{Token}
-use Rattle.cluster_history.specs.declared.data.Opening.{Opening}
-use Rattle.cluster_history.specs.declared.data.Operation.{Operation}
-use Rattle.cluster_history.specs.declared.data.Operation.TheVariants.{Write, Read}
+use Rattle.path_history.specs.declared.data.Opening.{Opening}
+use Rattle.path_history.specs.declared.data.Operation.{Operation}
+use Rattle.path_history.specs.declared.data.Operation.TheVariants.{Write, Read}
 use Rattle.cluster_cli.specs.declared.schedule.LineRef.{LineRef}
 use Rattle.cluster_cli.specs.declared.schedule.LineRef.TheVariants.{Line}
 use Rattle.cluster_cli.specs.declared.schedule.LineEvent.{LineEvent}

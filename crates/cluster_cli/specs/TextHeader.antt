@@ -3,7 +3,7 @@ use Rattle.std.specs.Prelude.{ℕ, ◌+◌, ◌^◌, ◌&&◌, nat_le, Bool, Lis
 use Rattle.std.specs.Str.{bytes_eq}
 use Rattle.base_ids.specs.declared.ids.Replica.{Replica}
 use Rattle.base_ids.specs.declared.ids.TableId.{TableId}
-use Rattle.cluster_history.specs.Openings.{has_distinct_hosts}
+use Rattle.path_history.specs.Openings.{has_distinct_hosts}
 use Rattle.cluster_cli.specs.TextCuts.{◌>>=◌, words_of, at_colons, first_line, first_of, only_of, after_word}
 use Rattle.cluster_cli.specs.TextNumbers.{number_below}
 

@@ -2,8 +2,8 @@
 use crate::play::PlayError;
 use crate::text::{ParseError, TextRule};
 use base_ids::{EventRule, NoMemory};
-use cluster_machine::StepError;
 use fault_io::{ReadError, WriteFault};
+use path_machine::StepError;
 use std::test::Fail;
 
 #[test]

@@ -1,14 +1,14 @@
 // The play of a schedule on a machine.
 ghost use Rattle.std.specs.Prelude.{◌≡◌, nat_eq, unwrap_or};
 ghost use Rattle.std.specs.HashMap.{get};
-ghost use Rattle.cluster_history.specs.Legal.{opening_journal};
+ghost use Rattle.path_history.specs.Legal.{opening_journal};
 ghost use Rattle.cluster_cli.specs.Schedule.{IsPlayable};
 ghost use Rattle.cluster_cli.specs.Play.{message_ref, event_of, event_of_act, played, IsPlay, IsLinePlay, HasActorOfAct, places_in};
 
 use crate::schedule::{LineAct, LineEvent, LineRef, SchedLine, Schedule};
 use base_ids::{EventRule, MsgRef, NoMemory, Version};
-use cluster_history::{Event, Journal, Operation};
-use cluster_machine::{Machine, StepError};
+use path_history::{Event, Journal, Operation};
+use path_machine::{Machine, StepError};
 use std::alloc::Global;
 use std::collections::HashMap;
 use thiserror::Error;

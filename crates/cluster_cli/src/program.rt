@@ -3,8 +3,8 @@ ghost use Rattle.std.specs.Prelude.{◌≡◌, ℕ, ◌≤◌, List, length, IfS
 ghost use Rattle.std.specs.List.{concat};
 ghost use Rattle.fault_io.specs.Counts.{Rose};
 ghost use Rattle.fault_io.specs.Written.{content_after, AddsPart};
-ghost use Rattle.cluster_history.specs.Legal.{IsLegalRun, opening_journal};
-ghost use Rattle.overlap_law.specs.Headline.{IsHeadline};
+ghost use Rattle.path_history.specs.Legal.{IsLegalRun, opening_journal};
+ghost use Rattle.path_law.specs.Headline.{IsHeadline};
 ghost use Rattle.cluster_cli.specs.Play.{IsFrontOf, Stop, played};
 ghost use Rattle.cluster_cli.specs.Program.{no_journal, refused_line, stopped_lines, play_ending, reading_ending, ending_of, command_ending, usage_ending, is_play, IsSaid, CameTo, CameToError, NoFault, Answers, IsAnswer};
 ghost use Rattle.cluster_cli.specs.Report.{report};
@@ -18,10 +18,10 @@ use crate::schedule::Schedule;
 use crate::status::Status;
 use crate::text::{ParseError, TextRule, parse};
 use base_ids::{EventRule, Items, Line, NoMemory, ReplicaList, TableId, Text};
-use cluster_history::{Journal, Opening};
-use cluster_machine::Machine;
 use fault_io::{ReadError, Sink, Source, WriteFault, read_all, write_all};
-use overlap_law::law_headline;
+use path_history::{Journal, Opening};
+use path_law::law_headline;
+use path_machine::Machine;
 use std::alloc::Global;
 
 /// The words of a command, after the program's name.

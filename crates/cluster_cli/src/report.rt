@@ -6,7 +6,7 @@ ghost use Rattle.cluster_cli.specs.Report.{cell_text, result_text, kind_text, re
 
 use base_ids::{Items, LaneId, Line, NoMemory, OpId, Version};
 use cell_merge::{Body, Cell};
-use cluster_history::{Entry, Event, Journal, Output};
+use path_history::{Entry, Event, Journal, Output};
 use quorum_ops::Reply;
 use stage_graph::Kind;
 use std::alloc::Global;

@@ -1,6 +1,6 @@
 // A schedule as plain data: an opening, and the lines to play.
 use base_ids::{HostId, Items, LaneId, OpId, Version};
-use cluster_history::{Opening, Operation};
+use path_history::{Opening, Operation};
 
 /// What a schedule text says.
 #[derive(Debug, Drop)]

@@ -7,7 +7,7 @@ use Rattle.cell_merge.specs.declared.cell.Cell.{Cell}
 use Rattle.cell_merge.specs.Cell.{greater_cell}
 use Rattle.stage_graph.specs.declared.kind.Kind.{Kind}
 use Rattle.stage_graph.specs.declared.kind.Kind.TheVariants.{Read as ReadKind, Write as WriteKind}
-use Rattle.quorum_tally.specs.Replicas.{same_replica}
+use Rattle.base_ids.specs.Replicas.{same_replica}
 use Rattle.quorum_ops.specs.declared.data.Answer.{Answer}
 use Rattle.quorum_ops.specs.declared.data.Said.{Said}
 use Rattle.quorum_ops.specs.declared.data.Said.TheVariants.{Written, Found, Stale as Refused}

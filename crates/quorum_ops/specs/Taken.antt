@@ -9,7 +9,7 @@ use Rattle.stage_graph.specs.declared.kind.Kind.{Kind}
 use Rattle.quorum_tally.specs.declared.tally.Place.{Place}
 use Rattle.quorum_tally.specs.declared.tally.Standing.{Standing}
 use Rattle.quorum_tally.specs.declared.tally.Standing.TheVariants.{Unmarked, Answered, Refused}
-use Rattle.quorum_tally.specs.Replicas.{same_replica}
+use Rattle.base_ids.specs.Replicas.{same_replica}
 use Rattle.quorum_tally.specs.Standings.{Standings}
 use Rattle.quorum_ops.specs.declared.data.Answer.{Answer}
 use Rattle.quorum_ops.specs.declared.data.Said.{Said}

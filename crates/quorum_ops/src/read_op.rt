@@ -32,7 +32,7 @@ impl Model for ReadOp {
 
 impl ReadOp {
     ghost use Rattle.std.specs.Prelude.{◌≡◌, ◌≤◌, length, map, IfOk};
-    ghost use Rattle.quorum_tally.specs.Replicas.{AreDistinct};
+    ghost use Rattle.base_ids.specs.Replicas.{AreDistinct};
     ghost use Rattle.quorum_ops.specs.Pending.{pending_read_of, Names, IsUndecided, read_after_answer, read_taking, data_taking, timeout_of};
 
     /// Begins a read: one ask for each target, in their order.

@@ -1,6 +1,6 @@
 // A write that waits for its replicas.
 ghost use Rattle.std.specs.Prelude.{◌≡◌, ◌≤◌, ◌<◌, length, map, take, IfOk};
-ghost use Rattle.quorum_tally.specs.Replicas.{AreDistinct};
+ghost use Rattle.base_ids.specs.Replicas.{AreDistinct};
 ghost use Rattle.quorum_ops.specs.Pending.{write_to};
 
 use crate::data::{Answer, Reply, Said, WriteAsk, WriteAskList};
@@ -31,7 +31,7 @@ impl Model for WriteOp {
 
 impl WriteOp {
     ghost use Rattle.std.specs.Prelude.{◌≡◌, ◌≤◌, length, map, IfOk};
-    ghost use Rattle.quorum_tally.specs.Replicas.{AreDistinct};
+    ghost use Rattle.base_ids.specs.Replicas.{AreDistinct};
     ghost use Rattle.quorum_ops.specs.Pending.{write_to, pending_of, Names, IsUndecided, after_answer, write_taking, timeout_of};
 
     /// Begins a write of this cell: one ask for each target, in their order.

@@ -1,2 +1,1 @@
-pub mod Replicas
 pub mod Standings

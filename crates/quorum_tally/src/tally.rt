@@ -1,6 +1,6 @@
 ghost use Rattle.std.specs.Prelude.{◌≡◌, ◌≢◌, ℕ, ◌+◌, ◌-◌, ◌<◌, ◌≤◌, length, take, map, count_by, IsTrue, ◌↔◌};
 ghost use Rattle.std.specs.List.{list_any};
-ghost use Rattle.quorum_tally.specs.Replicas.{AreDistinct};
+ghost use Rattle.base_ids.specs.Replicas.{AreDistinct};
 ghost use Rattle.quorum_tally.specs.Standings.{is_unmarked, is_answered, is_refused, unmarked_place, is_target, is_open, is_place_of, is_open_place, mark_in, marked_place, verdict_at};
 
 use base_ids::{HostId, Replica, ShardId};
@@ -72,7 +72,7 @@ impl Model for Tally {
 
 impl Tally {
     ghost use Rattle.std.specs.Prelude.{◌≡◌, ◌≢◌, ◌<◌, ◌≤◌, length, ◌↔◌};
-    ghost use Rattle.quorum_tally.specs.Replicas.{AreDistinct};
+    ghost use Rattle.base_ids.specs.Replicas.{AreDistinct};
     ghost use Rattle.quorum_tally.specs.Standings.{unmarked_standings, mark_of, marked_standings, answered_count, refused_count, hopeful_count, verdict_of};
 
     /// The tally of these targets, with nobody marked. Of the targets `need` have to answer.

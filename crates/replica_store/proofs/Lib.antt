@@ -6,3 +6,4 @@ pub mod RangeLemmas
 pub mod StoreLemmas
 pub mod GatherLemmas
 pub mod MapLemmas
+pub mod PuttingLemmas

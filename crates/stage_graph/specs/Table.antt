@@ -53,6 +53,10 @@ next_ok CleanupTarget (Some RevertMigration) = true
 next_ok RevertMigration None = true
 next_ok _ _ = false
 
+-- a majority of n replicas
+abbrev pub base_need : ℕ → ℕ
+base_need n = n / 2 + 1
+
 -- how many answers more than a majority of the tablet's replicas a write needs
 abbrev pub extra : Selector → ℕ
 extra Old = 0
@@ -61,5 +65,5 @@ extra New = 0
 
 -- how many of the replicas have to answer, where the tablet has n
 abbrev pub needed : Kind → ℕ → Option Stage → ℕ
-needed Read n stage = n / 2 + 1
-needed Write n stage = n / 2 + 1 + extra (writes stage)
+needed Read n stage = base_need n
+needed Write n stage = base_need n + extra (writes stage)

@@ -5,7 +5,8 @@ use Rattle.std.proofs.lemmas.List.Elements.{All-head, All-tail}
 use Rattle.std.proofs.lemmas.List.Sums.{sum_by-cons}
 use Rattle.std.specs.List.{All, count_by}
 use Rattle.base_ids.specs.declared.ids.Replica.{Replica}
-use Rattle.tablet_map.specs.Replicas.{has_host, on_distinct_hosts, hosts_below}
+use Rattle.base_ids.specs.Replicas.{has_host, on_distinct_hosts}
+use Rattle.tablet_map.specs.Replicas.{hosts_below}
 use Rattle.tablet_map.proofs.Joined.{and_left, and_right, not_true}
 
 abbrev pub one_if : Bool → ℕ

@@ -4,7 +4,8 @@ use Rattle.std.proofs.lemmas.List.Quantifiers.{position-Some}
 use Rattle.std.specs.List.{position}
 use Rattle.base_ids.specs.declared.ids.HostId.{HostId}
 use Rattle.base_ids.specs.declared.ids.Replica.{Replica}
-use Rattle.tablet_map.specs.Replicas.{same_replica, is_on, has_host, on_distinct_hosts, replaced, IsReplicaSet, CanMove}
+use Rattle.base_ids.specs.Replicas.{same_replica, is_on, has_host, on_distinct_hosts}
+use Rattle.tablet_map.specs.Replicas.{replaced, IsReplicaSet, CanMove}
 use Rattle.tablet_map.proofs.Places.{none_passes}
 use Rattle.tablet_map.proofs.Joined.{and_left, and_right, and_both, or_left, or_right, or_neither, not_true, not_false}
 

@@ -5,7 +5,8 @@ ghost use Rattle.base_ids.specs.declared.ids.Replica.{Replica};
 ghost use Rattle.stage_graph.specs.declared.table.Selector.TheVariants.{Old, Both, New};
 ghost use Rattle.token_ring.specs.declared.token.Token.{Token};
 ghost use Rattle.tablet_map.specs.declared.tablet.Transition.{Transition};
-ghost use Rattle.tablet_map.specs.Replicas.{holds, has_host, hosts_below, same_set, on_distinct_hosts};
+ghost use Rattle.base_ids.specs.Replicas.{has_replica, has_host, on_distinct_hosts};
+ghost use Rattle.tablet_map.specs.Replicas.{hosts_below, same_set};
 ghost use Rattle.tablet_map.specs.Tablets.{Tablets, IsMap};
 ghost use Rattle.tablet_map.specs.Calls.{least_moving, least_apart, split_of, merge_of, MergeEnds};
 ghost use Rattle.tablet_map.specs.Sets.{replicas_at, selected};
@@ -41,5 +42,5 @@ pub fn law_counts_are_of_hosts()
 /// with it in the leaving one's place.
 pub fn law_counts_in_transition()
     ensures both { (test : Replica → Bool) (replicas : List Replica) (t : Transition) → count_by test (selected Both replicas t) ≡ count_by test (selected Old replicas t) + (if test t.pending then 1 else 0) }
-    ensures new { (test : Replica → Bool) (replicas : List Replica) (t : Transition) → IsTrue (holds replicas t.leaving) → count_by test (selected New replicas t) + (if test t.leaving then 1 else 0) ≡ count_by test (selected Old replicas t) + (if test t.pending then 1 else 0) }
+    ensures new { (test : Replica → Bool) (replicas : List Replica) (t : Transition) → IsTrue (has_replica replicas t.leaving) → count_by test (selected New replicas t) + (if test t.leaving then 1 else 0) ≡ count_by test (selected Old replicas t) + (if test t.pending then 1 else 0) }
 {}

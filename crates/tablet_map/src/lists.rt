@@ -1,7 +1,8 @@
 //! The calls of the map, over its lists.
 ghost use Rattle.std.specs.Prelude.{◌≡◌, ◌≤◌, ◌<◌, length, IfOk, map, option_map, position, replicate, take, ◌/◌, ◌*◌, ◌+◌, IfSome};
 ghost use Rattle.std.specs.List.{flat_map, list_all};
-ghost use Rattle.tablet_map.specs.Replicas.{same_replica, holds, replaced, same_set};
+ghost use Rattle.base_ids.specs.Replicas.{same_replica, has_replica};
+ghost use Rattle.tablet_map.specs.Replicas.{replaced, same_set};
 ghost use Rattle.tablet_map.specs.Tablets.{tablet_in, has_session};
 ghost use Rattle.tablet_map.specs.Calls.{at_rest, both, pairs, least_moving, least_apart};
 
@@ -52,14 +53,14 @@ pub(crate) fn replace(replicas: &mut ReplicaList, leaving: Replica, pending: Rep
 
 /// Whether a replica is in a list.
 fn is_in(replicas: &[Replica], sought: Replica) -> bool
-    ensures { result ≡ holds replicas.now sought }
+    ensures { result ≡ has_replica replicas.now sought }
 {
     replicas.iter().any(|replica| is_same(sought, *replica))
 }
 
 /// Whether all replicas of a list are in another.
 fn are_in(replicas: &[Replica], others: &[Replica]) -> bool
-    ensures { result ≡ list_all (holds others.now) replicas.now }
+    ensures { result ≡ list_all (has_replica others.now) replicas.now }
 {
     replicas.iter().all(|replica| is_in(others, *replica))
 }

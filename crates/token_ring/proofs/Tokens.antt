@@ -1,7 +1,11 @@
--- Tokens are told apart by their numbers.
-use Rattle.std.proofs.Common.{◌≡◌, ℤ, ap, subst}
+-- Tokens are told apart by their numbers, and numbers by their places.
+use Rattle.std.proofs.Common.{◌≡◌, ◌∙◌, ℕ, ℤ, pos, negsuc, Bool, true, false, refl, sym, ap, subst, arith}
 use Rattle.std.proofs.Props.{props}
-use Rattle.token_ring.specs.Ring.{IsToken}
+use Rattle.std.proofs.lemmas.Bool.Decides.{nat_tests}
+use Rattle.std.proofs.lemmas.Int.{ints}
+use Rattle.token_ring.specs.Range.{above_least, below_end, token_by, token_of, range_at}
+use Rattle.token_ring.specs.Ring.{IsToken, place, number_at, first_place, last_place}
+use Rattle.token_ring.specs.declared.ring.TokenRange.{TokenRange}
 use Rattle.token_ring.specs.declared.token.Token.{Token}
 
 one_proof : (value : ℤ) → IsProp (IsToken value)
@@ -15,3 +19,33 @@ with_number a value e =
 
 pub same_token : (a b : Token) → a.value ≡ b.value → a ≡ b
 same_token a b e = with_number a b.value e b.is_token
+
+pub number_of_place : (value : ℤ) → IsToken value → number_at (place value) ≡ value
+number_of_place (pos n) h = grind (arith, nat_tests)
+number_of_place (negsuc n) h = grind (arith, nat_tests, ints)
+
+-- a number that is a token's is its token's number
+value_by : (value : ℤ) (above below : Bool) (p : above_least value ≡ above) (q : below_end value ≡ below) → above ≡ true → below ≡ true → (token_by value above below p q).value ≡ value
+value_by value true true p q a b = refl
+value_by value true false p q a b = cc
+value_by value false below p q a b = cc
+
+pub value_of_token : (value : ℤ) → IsToken value → (token_of value).value ≡ value
+value_of_token value h =
+    let low : above_least value ≡ true = grind (arith, ints, h.0) in
+    let high : below_end value ≡ true = grind (arith, ints, h.1) in
+    value_by value (above_least value) (below_end value) refl refl low high
+
+-- the token at a place
+pub token_at_place : (token : Token) (at : ℕ) → place token.value ≡ at → token ≡ token_of (number_at at)
+token_at_place token at e =
+    let same : number_at at ≡ token.value = ap number_at (sym e) ∙ number_of_place token.value token.is_token in
+    same_token token (token_of (number_at at)) (sym (ap (λ v. (token_of v).value) same ∙ value_of_token token.value token.is_token))
+
+same_range : (range : TokenRange) (first last : Token) → range.first ≡ first → range.last ≡ last → range ≡ record { first = first; last = last }
+same_range range first last p q i = record { first = p i; last = q i }
+
+pub range_at_places : (range : TokenRange) (log2 tablet : ℕ) → place range.first.value ≡ first_place log2 tablet → place range.last.value ≡ last_place log2 tablet → range ≡ range_at log2 tablet
+range_at_places range log2 tablet low high =
+    same_range range (token_of (number_at (first_place log2 tablet))) (token_of (number_at (last_place log2 tablet)))
+    (token_at_place range.first (first_place log2 tablet) low) (token_at_place range.last (last_place log2 tablet) high)

@@ -1,5 +1,5 @@
 -- The ring: signed 64-bit numbers in order, divided evenly into a power of two of tablets.
-use Rattle.std.specs.Prelude.{◌≡◌, ◌+◌, ◌-◌, ◌*◌, ◌/◌, ◌^◌, ◌≤◌, ◌<ℤ◌, ℕ, ℤ, negsuc, pos, max}
+use Rattle.std.specs.Prelude.{◌≡◌, ◌+◌, ◌-◌, ◌*◌, ◌/◌, ◌^◌, ◌≤◌, ◌<ℤ◌, ℕ, ℤ, negsuc, pos, nat_le, max, if◌then◌else◌}
 
 -- the one signed 64-bit number that is no token, -2^63
 abbrev pub least_number : ℤ
@@ -13,6 +13,10 @@ IsToken value = (least_number <ℤ value) × (value <ℤ pos (2 ^ 63))
 abbrev pub place : ℤ → ℕ
 place (pos n) = 2 ^ 63 + n
 place (negsuc n) = 2 ^ 63 - (n + 1)
+
+-- the number at a place of the ring
+abbrev pub number_at : ℕ → ℤ
+number_at at = if nat_le (2 ^ 63) at then pos (at - 2 ^ 63) else negsuc (2 ^ 63 - at - 1)
 
 -- how many places each of 2^log2 tablets has
 abbrev pub width : ℕ → ℕ

@@ -1,6 +1,6 @@
 ghost use Rattle.std.specs.Prelude.{◌≡◌, ◌↔◌, ◌+◌, ◌*◌, ◌/◌, ◌^◌, ◌<◌, ◌≤◌};
 ghost use Rattle.token_ring.specs.Ring.{place, tablet_at, first_place, last_place, width};
-ghost use Rattle.token_ring.specs.Range.{IsIn};
+ghost use Rattle.token_ring.specs.Range.{IsIn, range_at};
 ghost use Rattle.token_ring.specs.declared.token.Token.{Token};
 
 use crate::token::Token;
@@ -30,6 +30,7 @@ pub fn tablet_of(log2: u8, token: Token) -> TabletId
 pub fn range_of(log2: u8, tablet: TabletId) -> TokenRange
     requires divided { log2 ≤ 10 }
     requires within { tablet.0 < 2 ^ log2 }
+    ensures range { result ≡ range_at log2 tablet.0 }
     ensures first { place result.first.value ≡ first_place log2 tablet.0 }
     ensures last { place result.last.value ≡ last_place log2 tablet.0 }
     ensures tokens { (token : Token) → IsIn result token ↔ (tablet_at log2 token.value ≡ tablet.0) }

@@ -11,7 +11,7 @@ use crate::text::cells::{cell_of, token_of};
 use crate::text::cuts::{COLON, DOT, SPACE, first_piece, only_piece};
 use crate::text::numbers::{number_below, wide_number};
 use base_ids::{HostId, LaneId, OpId, TableId};
-use cluster_history::{Opening, Operation};
+use path_history::{Opening, Operation};
 use std::collections::BTreeMap;
 use token_ring::Token;
 

@@ -4,14 +4,14 @@ ghost use Rattle.std.specs.Option.{option_map, option_copied};
 ghost use Rattle.std.specs.List.{list_any};
 ghost use Rattle.cluster_cli.specs.TextCuts.{lines_of, words_of, pieces_left, after_word, first_of};
 ghost use Rattle.cluster_cli.specs.TextHeader.{count_of, hosts_of, lanes_of, replica_of, replicas_of, are_replicas, tablet_of, table_start_of, table_of, after_line, first_as};
-ghost use Rattle.cluster_history.specs.Openings.{shares_host, has_distinct_hosts};
+ghost use Rattle.path_history.specs.Openings.{shares_host, has_distinct_hosts};
 ghost use Rattle.cluster_cli.specs.Text.{header_of, Gives};
 
 use crate::text::cuts::{COLON, SPACE, first_line, first_piece, only_piece};
 use crate::text::numbers::number_below;
 use crate::text::{ParseError, refused};
 use base_ids::{HostId, NoMemory, Replica, ReplicaList, ShardId, TableId};
-use cluster_history::Opening;
+use path_history::Opening;
 use std::alloc::Global;
 
 /// The words behind the first one, where it is this name.

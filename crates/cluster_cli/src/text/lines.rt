@@ -11,7 +11,7 @@ use crate::text::cuts::first_line;
 use crate::text::events::line_of;
 use crate::text::{ParseError, refused};
 use base_ids::{Items, NoMemory};
-use cluster_history::Opening;
+use path_history::Opening;
 use std::alloc::Global;
 use std::collections::BTreeMap;
 

@@ -2,7 +2,7 @@ use super::*;
 use crate::schedule::{LineAct, LineEvent, LineRef, SchedLine};
 use base_ids::{HostId, LaneId, OpId, Replica, ShardId, TableId};
 use cell_merge::{Body, Bytes64, Cell};
-use cluster_history::Operation;
+use path_history::Operation;
 use std::test::Fail;
 use token_ring::Token;
 

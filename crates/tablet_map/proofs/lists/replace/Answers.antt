@@ -1,6 +1,6 @@
 use Rattle.std.proofs.Common.{◌≡◌, Some, None, rules, ◌∙◌}
 use Rattle.std.specs.List.{position}
-use Rattle.tablet_map.specs.Replicas.{same_replica}
+use Rattle.base_ids.specs.Replicas.{same_replica}
 use Rattle.tablet_map.proofs.Replaced.{replaced_where, replaced_nowhere}
 use Rattle.tablet_map.proofs.lists.replace.Goals as goal
 

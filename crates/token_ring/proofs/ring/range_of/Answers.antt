@@ -1,7 +1,14 @@
 use Rattle.std.proofs.Common.{◌≡◌, arith}
 use Rattle.token_ring.proofs.Places.{in_range, range_has, second_place}
 use Rattle.token_ring.specs.Ring.{place, first_place, last_place}
+use Rattle.token_ring.proofs.Tokens.{range_at_places}
 use Rattle.token_ring.proofs.ring.range_of.Goals as goal
+
+pub returns-clause-range : goal.returns-clause-range
+returns-clause-range c =
+    let low : place c.token_at.result.value ≡ first_place c.args.log2 c.args.tablet.0 = omega arith in
+    let high : place c.token_at-2.result.value ≡ last_place c.args.log2 c.args.tablet.0 = omega arith in
+    range_at_places (record { first = c.token_at.result; last = c.token_at-2.result }) c.args.log2 c.args.tablet.0 low high
 
 pub token_at-requires-2 : goal.token_at-requires-2
 token_at-requires-2 c =

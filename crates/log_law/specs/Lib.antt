@@ -1,0 +1,5 @@
+pub mod Stages
+pub mod Steps
+pub mod Moves
+pub mod Pairs
+pub mod Laws

@@ -1,5 +1,0 @@
-use Rattle.overlap_law.proofs.HeadlineLemmas.{headline}
-use Rattle.overlap_law.proofs.laws.law_headline.Goals as goal
-
-pub returns : goal.returns
-returns c = headline c.args.journal.now c.requires

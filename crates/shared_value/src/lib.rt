@@ -1,0 +1,9 @@
+//! A value with several owners, which contracts see as the value itself.
+#![tactic(auto)]
+
+mod shared;
+
+pub use shared::{Shared, Shared as Arc};
+
+#[cfg(test)]
+mod tests;
