@@ -1,5 +1,5 @@
 -- Decisions are those of commands.
-use Rattle.std.proofs.Common.{◌≡◌, ◌+◌, ◌≤◌, ℕ, List, [], ◌∷◌, length, cond, eqb, true, false, Option, Some, None, refl, ap, sym, subst, ◌∙◌, arith}
+use Rattle.std.proofs.Common.{◌≡◌, ◌+◌, ℕ, List, [], ◌∷◌, length, cond, eqb, true, false, Some, None, refl, ap, sym, subst, ◌∙◌}
 use Rattle.std.proofs.lemmas.Bool.{cond_both, eq-eqb, eqb-true}
 use Rattle.base_ids.specs.declared.ids.TableId.{TableId}
 use Rattle.tablet_map.specs.Calls.{new_tablets}

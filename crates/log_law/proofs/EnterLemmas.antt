@@ -1,10 +1,9 @@
 -- How a session came to a stage.
-use Rattle.std.proofs.Common.{◌≡◌, ◌+◌, ◌<◌, ◌≤◌, ℕ, ℤ, List, [], ◌∷◌, length, cond, eqb, true, false, Option, Some, None, refl, ap, sym, subst, ◌∙◌, arith, inl, inr}
-use Rattle.std.proofs.lemmas.Bool.{cases_eq, ne_eqb}
+use Rattle.std.proofs.Common.{◌≡◌, ◌+◌, ◌<◌, ◌≤◌, ℕ, ℤ, List, [], ◌∷◌, length, cond, eqb, true, false, Option, Some, None, refl, ap, sym, subst, ◌∙◌, arith}
 use Rattle.base_ids.specs.declared.ids.Replica.{Replica}
 use Rattle.base_ids.specs.declared.ids.TableId.{TableId}
 use Rattle.stage_graph.specs.declared.stage.Stage.{Stage}
-use Rattle.stage_graph.specs.declared.stage.Stage.TheVariants.{AllowWriteBothReadOld, WriteBothReadOld, Streaming, WriteBothReadNew, UseNew, Cleanup, EndMigration, FallbackCleanup, CleanupTarget, RevertMigration}
+use Rattle.stage_graph.specs.declared.stage.Stage.TheVariants.{AllowWriteBothReadOld}
 use Rattle.stage_graph.specs.Table.{next_ok}
 use Rattle.token_ring.specs.declared.token.Token.{Token}
 use Rattle.tablet_map.specs.declared.tablet.Tablet.{Tablet}

@@ -1,5 +1,5 @@
 -- The place that a session is found at is that of its start.
-use Rattle.std.proofs.Common.{◌≡◌, ◌≤◌, ℕ, ℤ, arith, List, [], ◌∷◌, length, cond, eqb, true, false, ◌&&◌, ◌||◌, not, Option, Some, None, refl, ap, sym, subst, ◌∙◌, inl, inr}
+use Rattle.std.proofs.Common.{◌≡◌, ◌≤◌, ℕ, ℤ, arith, List, [], ◌∷◌, length, cond, eqb, true, false, ◌||◌, not, Option, Some, None, refl, ap, sym, subst, ◌∙◌, inl, inr}
 use Rattle.std.specs.List.{list_any, position}
 use Rattle.std.proofs.lemmas.Bool.{cases_lt, eqb-true, eq-eqb}
 use Rattle.std.proofs.lemmas.List.{get_or_past}

@@ -16,7 +16,7 @@ use Rattle.topo_state.specs.declared.command.Command.{Command}
 use Rattle.topo_state.specs.declared.command.Command.TheVariants.{Start, Resize}
 use Rattle.topo_state.specs.State.{Topology}
 use Rattle.topo_state.specs.Tables.{table_in, placed_tablet}
-use Rattle.topo_state.specs.Sessions.{SessionPlace, place_of_session}
+use Rattle.topo_state.specs.Sessions.{SessionPlace}
 use Rattle.topo_state.specs.Views.{view}
 use Rattle.group0_log.specs.Log.{state_at, command_at}
 use Rattle.log_law.specs.Stages.{shown_stage}
