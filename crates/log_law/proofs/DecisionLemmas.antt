@@ -14,7 +14,7 @@ use Rattle.topo_state.specs.State.{Topology}
 use Rattle.topo_state.specs.Tables.{table_in}
 use Rattle.topo_state.proofs.TableLemmas.{no_table_then, table_in-id, table_then}
 use Rattle.group0_log.specs.Log.{command_at, first_commands, state_at, state_of}
-use Rattle.log_law.specs.Moves.{AreDecided}
+use Rattle.log_law.specs.Relocations.{AreDecided}
 use Rattle.log_law.proofs.PrefixLemmas.{command_at-first, command_at_older, state_at-first}
 
 decided_now : (log : List Command) (id : TableId) (kind : ResizeKind) (d : Decision) → decision kind (length log + 1) ≡ Some d → command_at (Resize id kind ∷ log) d.seq.0 ≡ Some (Resize id d.kind)

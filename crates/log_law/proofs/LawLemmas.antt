@@ -13,6 +13,7 @@ use Rattle.log_law.specs.Laws.{HasDecisions, HasFences, HasMembersBefore, HasPai
 use Rattle.log_law.specs.Stages.{view_with}
 use Rattle.log_law.specs.Steps.{ViewStep}
 use Rattle.log_law.proofs.DecisionLemmas.{decided_at}
+use Rattle.log_law.proofs.EnterLemmas.{entered}
 use Rattle.log_law.proofs.NextLemmas.{first_view, next_view}
 use Rattle.log_law.proofs.OpeningLemmas.{opening_fenced, opening_still, opening_undecided}
 use Rattle.log_law.proofs.PairLemmas.{pair_of_itself, pair_of_step}
@@ -22,7 +23,7 @@ use Rattle.log_law.proofs.ReachedLemmas.{entered_from, gone_for_good, reached_by
 use Rattle.log_law.proofs.RisingLemmas.{before_at, before_at_first, fenced_at, latest_at, rising_states}
 use Rattle.log_law.proofs.StartLemmas.{start_of}
 use Rattle.log_law.proofs.StateLemmas.{topology_at, topology_with}
-use Rattle.log_law.proofs.VersionLemmas.{known, version_then, with_below}
+use Rattle.log_law.proofs.VersionLemmas.{known, latest, version_then, with_below}
 use Rattle.log_law.proofs.ViewLemmas.{seen_at, view_of_version, view_sound}
 
 pub versions_law : OfEachLog HasVersions

@@ -17,7 +17,7 @@ use Rattle.group0_log.specs.Log.{IsLegalLog, first_commands, state_at, state_of,
 use Rattle.log_law.specs.Laws.{IsReachedBefore}
 use Rattle.log_law.specs.Stages.{IsEnteredFrom, IsFrom, IsNotLater, IsReachedAt, IsReachedBy, shown_stage, stage_at, stage_with, view_with}
 use Rattle.log_law.proofs.EnterLemmas.{entered, shown_numbered}
-use Rattle.log_law.proofs.LoggedMoves.{IsStill}
+use Rattle.log_law.proofs.LoggedRelocations.{IsStill}
 use Rattle.log_law.proofs.PrefixLemmas.{legal-first, length-first, state_at-first, state_at-prefix}
 use Rattle.log_law.proofs.RisingLemmas.{before_by_version, not_below, numbered_state, rising_states}
 use Rattle.log_law.proofs.StageLemmas.{stage_since_start}

@@ -22,7 +22,7 @@ use Rattle.group0_log.specs.Log.{IsLegalLog, state_of, state_at, state_with, com
 use Rattle.group0_log.specs.Versions.{raises, IsKnown, IsLatest, IsFenced}
 use Rattle.log_law.specs.Stages.{stage_at, view_with, stage_with, IsNotLater, IsFrom, IsReachedAt, IsReachedBy, IsEnteredFrom}
 use Rattle.log_law.specs.Steps.{ViewStep}
-use Rattle.log_law.specs.Moves.{IsItsStart, IsPlaceOf, AreDecided}
+use Rattle.log_law.specs.Relocations.{IsItsStart, IsPlaceOf, AreDecided}
 use Rattle.log_law.specs.Pairs.{IsPair}
 
 -- a statement holds of each legal log from each opening
