@@ -1,5 +1,5 @@
 -- Decisions are those of commands.
-use Rattle.std.proofs.Common.{◌≡◌, ◌+◌, ◌≤◌, ℕ, List, [], ◌∷◌, length, cond, eqb, true, false, Option, Some, None, refl, ap, sym, subst, ◌∙◌, arith}
+use Rattle.std.proofs.Common.{◌≡◌, ◌+◌, ℕ, List, [], ◌∷◌, length, cond, eqb, true, false, Some, None, refl, ap, sym, subst, ◌∙◌}
 use Rattle.std.proofs.lemmas.Bool.{cond_both, eq-eqb, eqb-true}
 use Rattle.base_ids.specs.declared.ids.TableId.{TableId}
 use Rattle.tablet_map.specs.Calls.{new_tablets}
@@ -14,7 +14,7 @@ use Rattle.topo_state.specs.State.{Topology}
 use Rattle.topo_state.specs.Tables.{table_in}
 use Rattle.topo_state.proofs.TableLemmas.{no_table_then, table_in-id, table_then}
 use Rattle.group0_log.specs.Log.{command_at, first_commands, state_at, state_of}
-use Rattle.log_law.specs.Moves.{AreDecided}
+use Rattle.log_law.specs.Relocations.{AreDecided}
 use Rattle.log_law.proofs.PrefixLemmas.{command_at-first, command_at_older, state_at-first}
 
 decided_now : (log : List Command) (id : TableId) (kind : ResizeKind) (d : Decision) → decision kind (length log + 1) ≡ Some d → command_at (Resize id kind ∷ log) d.seq.0 ≡ Some (Resize id d.kind)

@@ -1,14 +1,12 @@
 -- The lists of two views one step apart are lists of one move.
-use Rattle.std.proofs.Common.{◌≡◌, ◌+◌, ◌≤◌, ℕ, List, [], ◌∷◌, length, Bool, true, false, not, ◌&&◌, Option, Some, None, refl, ap, sym, subst, ◌∙◌, arith, inl, inr}
-use Rattle.std.specs.Prelude.{option_map, IfSome}
+use Rattle.std.proofs.Common.{◌≡◌, ◌≤◌, ℕ, List, [], ◌∷◌, length, Bool, Option, Some, None, refl, ap, sym, subst, ◌∙◌, arith, inl, inr}
+use Rattle.std.specs.Prelude.{IfSome}
 use Rattle.std.specs.List.{count_by}
-use Rattle.std.proofs.lemmas.Bool.{or_cases, eqb-true}
 use Rattle.base_ids.specs.declared.ids.Replica.{Replica}
 use Rattle.stage_graph.specs.declared.stage.Stage.{Stage}
 use Rattle.stage_graph.specs.declared.stage.Stage.TheVariants.{AllowWriteBothReadOld, EndMigration, RevertMigration}
 use Rattle.stage_graph.specs.declared.table.Selector.{Selector}
 use Rattle.stage_graph.specs.declared.table.Selector.TheVariants.{Old, Both, New}
-use Rattle.stage_graph.specs.Table.{reads, writes, extra}
 use Rattle.tablet_map.specs.declared.tablet.Tablet.{Tablet}
 use Rattle.tablet_map.specs.declared.tablet.Transition.{Transition}
 use Rattle.base_ids.specs.Replicas.{has_replica, has_host, same_replica}
@@ -16,9 +14,9 @@ use Rattle.tablet_map.specs.Replicas.{CanMove, replaced}
 use Rattle.tablet_map.specs.Tablets.{IsSound}
 use Rattle.tablet_map.specs.Calls.{at_rest}
 use Rattle.tablet_map.specs.Sets.{selected}
-use Rattle.tablet_map.proofs.Joined.{and_left, and_right, not_true, or_first}
+use Rattle.tablet_map.proofs.Joined.{not_true, or_first}
 use Rattle.tablet_map.proofs.Members.{is_same}
-use Rattle.tablet_map.proofs.Counts.{one_if, count_same}
+use Rattle.tablet_map.proofs.Counts.{count_same}
 use Rattle.topo_state.specs.Lists.{Cleaned, Leaving, Nobody, Pending, cleaned_by, cleans}
 use Rattle.log_law.specs.Steps.{Advances, Finishes, Regroups, Reverts, Starts, Stays, ViewStep}
 use Rattle.log_law.proofs.Turns.{Frame}

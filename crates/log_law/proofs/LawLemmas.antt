@@ -1,6 +1,5 @@
 -- The laws, from an opening on.
-use Rattle.std.proofs.Common.{◌≡◌, ◌+◌, ◌≤◌, ◌<◌, ℕ, List, length, Option, Some, None, refl, ap, sym, subst, ◌∙◌, arith}
-use Rattle.base_ids.specs.declared.ids.Session.{Session}
+use Rattle.std.proofs.Common.{◌≡◌, ◌+◌, ℕ, List, Some, ap, sym, subst, ◌∙◌, arith}
 use Rattle.base_ids.specs.declared.ids.TableId.{TableId}
 use Rattle.token_ring.specs.declared.token.Token.{Token}
 use Rattle.tablet_map.specs.declared.tablet.Tablet.{Tablet}

@@ -4,7 +4,7 @@ pub mod RisingLemmas
 pub mod StateLemmas
 pub mod ListLemmas
 pub mod ViewLemmas
-pub mod LoggedMoves
+pub mod LoggedRelocations
 pub mod ShownLemmas
 pub mod LoggedLemmas
 pub mod StartLemmas
@@ -14,6 +14,7 @@ pub mod NextLemmas
 pub mod StageLemmas
 pub mod OpeningLemmas
 pub mod PlaceLemmas
+pub mod RangeLemmas
 pub mod EnterLemmas
 pub mod ReachedLemmas
 pub mod Turns

@@ -1,5 +1,5 @@
 -- The lists that a sound tablet's requests go to: how long they are, and on which hosts.
-use Rattle.std.proofs.Common.{◌≡◌, ◌+◌, ℕ, List, [], ◌∷◌, ◌++◌, length, eqb, Bool, true, false, not, ◌&&◌, ◌||◌, Option, Some, None, refl, ap, sym, ◌∙◌, arith, inl, inr}
+use Rattle.std.proofs.Common.{◌≡◌, ◌+◌, ℕ, List, [], ◌∷◌, ◌++◌, length, eqb, true, false, not, ◌||◌, Option, Some, None, refl, ap, sym, ◌∙◌, arith, inl, inr}
 use Rattle.std.specs.Prelude.{IfSome, option_map}
 use Rattle.std.specs.List.{list_all}
 use Rattle.std.proofs.lemmas.Bool.{or_cases, eqb-true}
@@ -15,7 +15,7 @@ use Rattle.stage_graph.specs.declared.table.Selector.TheVariants.{Old, Both, New
 use Rattle.stage_graph.specs.Table.{reads, writes, extra}
 use Rattle.tablet_map.specs.declared.tablet.Tablet.{Tablet}
 use Rattle.tablet_map.specs.declared.tablet.Transition.{Transition}
-use Rattle.tablet_map.specs.Replicas.{IsReplicaSet, CanMove, replaced}
+use Rattle.tablet_map.specs.Replicas.{CanMove, replaced}
 use Rattle.tablet_map.specs.Sets.{selected}
 use Rattle.tablet_map.specs.Tablets.{IsSound}
 use Rattle.tablet_map.proofs.Joined.{and_left, and_right, and_both, or_left, or_right, or_neither, not_true, not_false}

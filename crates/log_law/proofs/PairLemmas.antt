@@ -1,5 +1,5 @@
 -- Two views one step apart are a pair.
-use Rattle.std.proofs.Common.{◌≡◌, ◌+◌, ◌≤◌, ◌⊎◌, ℕ, List, [], ◌∷◌, cond, eqb, Bool, true, false, not, ◌&&◌, ◌||◌, Option, Some, None, refl, ap, sym, subst, ◌∙◌, arith, inl, inr}
+use Rattle.std.proofs.Common.{◌≡◌, ◌+◌, ◌≤◌, ◌⊎◌, ℕ, List, [], ◌∷◌, eqb, Bool, true, false, not, ◌&&◌, ◌||◌, Option, Some, None, refl, ap, sym, ◌∙◌, arith, inl, inr}
 use Rattle.std.specs.Prelude.{option_map}
 use Rattle.std.specs.List.{count_by}
 use Rattle.std.proofs.lemmas.Bool.{or_cases, eqb-true}
@@ -9,7 +9,7 @@ use Rattle.base_ids.specs.Replicas.{has_host, is_on}
 use Rattle.stage_graph.specs.declared.stage.Stage.{Stage}
 use Rattle.stage_graph.specs.declared.stage.Stage.TheVariants.{AllowWriteBothReadOld, WriteBothReadOld, Streaming, WriteBothReadNew, Cleanup, EndMigration, FallbackCleanup, CleanupTarget, RevertMigration}
 use Rattle.stage_graph.specs.declared.table.Selector.{Selector}
-use Rattle.stage_graph.specs.declared.table.Selector.TheVariants.{Old, Both, New}
+use Rattle.stage_graph.specs.declared.table.Selector.TheVariants.{Old, New}
 use Rattle.stage_graph.specs.Table.{reads, writes, extra, next_ok}
 use Rattle.tablet_map.specs.declared.tablet.Tablet.{Tablet}
 use Rattle.tablet_map.specs.declared.tablet.Transition.{Transition}

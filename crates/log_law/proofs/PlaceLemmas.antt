@@ -1,5 +1,5 @@
 -- The place that a session is found at is that of its start.
-use Rattle.std.proofs.Common.{◌≡◌, ◌≤◌, ℕ, ℤ, arith, List, [], ◌∷◌, length, cond, eqb, true, false, ◌&&◌, ◌||◌, not, Option, Some, None, refl, ap, sym, subst, ◌∙◌, inl, inr}
+use Rattle.std.proofs.Common.{◌≡◌, ◌≤◌, ℕ, ℤ, arith, List, [], ◌∷◌, length, cond, eqb, true, false, ◌||◌, not, Option, Some, None, refl, ap, sym, subst, ◌∙◌, inl, inr}
 use Rattle.std.specs.List.{list_any, position}
 use Rattle.std.proofs.lemmas.Bool.{cases_lt, eqb-true, eq-eqb}
 use Rattle.std.proofs.lemmas.List.{get_or_past}
@@ -20,10 +20,10 @@ use Rattle.topo_state.specs.State.{Topology}
 use Rattle.topo_state.specs.Tables.{are_distinct, at_number, at_token, has_id, placed_tablet, table_in}
 use Rattle.topo_state.specs.Views.{view}
 use Rattle.group0_log.specs.Log.{IsLegalLog, state_at}
-use Rattle.log_law.specs.Moves.{IsPlaceOf, Move, Shows, move_of, shown_move}
+use Rattle.log_law.specs.Relocations.{IsPlaceOf, Relocation, Shows, relocation_of, shown_relocation}
 use Rattle.log_law.specs.Stages.{shown_stage}
-use Rattle.log_law.proofs.LoggedMoves.{IsStill, found_move}
-use Rattle.log_law.proofs.StartLemmas.{found_move_of, is_at, its_start, stage_of_shown}
+use Rattle.log_law.proofs.LoggedRelocations.{IsStill, found_relocation}
+use Rattle.log_law.proofs.StartLemmas.{found_relocation_of, is_at, its_start, stage_of_shown}
 
 pub record IsFound (tables : List Table) (session : Session) (id : TableId) (number : ℕ) : Type 0 where
   pub table : Table
@@ -62,32 +62,32 @@ found_place (t ∷ rest) session p distinct h =
     (not_true (list_any (has_id t.id) rest) (and_left (not (list_any (has_id t.id) rest)) (are_distinct rest) distinct)) refl h
     (λ k. found_place rest session p (and_right (not (list_any (has_id t.id) rest)) (are_distinct rest) distinct) k)
 
-has_shows : (session : Session) (log2 : ℕ) (replicas : List Replica) (o : Option Transition) → has_session session (record { replicas = replicas; transition = o }) ≡ true → (m : Move) × (move_of session.0 log2 (record { replicas = replicas; transition = o }) ≡ Some m) × (m.log2 ≡ log2)
+has_shows : (session : Session) (log2 : ℕ) (replicas : List Replica) (o : Option Transition) → has_session session (record { replicas = replicas; transition = o }) ≡ true → (m : Relocation) × (relocation_of session.0 log2 (record { replicas = replicas; transition = o }) ≡ Some m) × (m.log2 ≡ log2)
 has_shows session log2 replicas None h = cc h
 has_shows session log2 replicas (Some t) h = (record { log2 = log2; replicas = replicas; leaving = t.leaving; pending = t.pending }, rw h refl, refl)
 
-not_shows : (session : Session) (log2 : ℕ) (replicas : List Replica) (o : Option Transition) → has_session session (record { replicas = replicas; transition = o }) ≡ false → move_of session.0 log2 (record { replicas = replicas; transition = o }) ≡ None
+not_shows : (session : Session) (log2 : ℕ) (replicas : List Replica) (o : Option Transition) → has_session session (record { replicas = replicas; transition = o }) ≡ false → relocation_of session.0 log2 (record { replicas = replicas; transition = o }) ≡ None
 not_shows session log2 replicas None h = refl
 not_shows session log2 replicas (Some t) h = rw h refl
 
 -- the tablet that is found has the session
-found_move_at : (tables : List Table) (session : Session) (p : SessionPlace) (f : IsFound tables session p.table p.tablet) → (m : Move) × (shown_move session.0 tables p.table (at_number p.tablet) ≡ Some m) × (m.log2 ≡ f.table.map.log2)
-found_move_at tables session p f =
+found_relocation_at : (tables : List Table) (session : Session) (p : SessionPlace) (f : IsFound tables session p.table p.tablet) → (m : Relocation) × (shown_relocation session.0 tables p.table (at_number p.tablet) ≡ Some m) × (m.log2 ≡ f.table.map.log2)
+found_relocation_at tables session p f =
     let facts = position-Some (has_session session) f.table.map.list p.tablet no_tablet f.first in
     let x : Tablet = tablet_in f.table.map.list p.tablet in
     let shows = has_shows session f.table.map.log2 x.replicas x.transition facts.1 in
-    (shows.0, ap (found_move session.0 (at_number p.tablet)) f.there ∙ shows.1, shows.2)
+    (shows.0, ap (found_relocation session.0 (at_number p.tablet)) f.there ∙ shows.1, shows.2)
 
 -- what is found is the place of the session's keys
 pub found_is : (first : Topology) → IsStill first → (log : List Command) → IsLegalLog first log → (n : ℕ) → n ≤ length log → are_distinct (state_at first log n).tables ≡ true → (session : Session) (p : SessionPlace) → place_of_session (state_at first log n).tables session ≡ Some p → IsPlaceOf session (state_at first log n) p
 found_is first still log legal n within distinct session p h =
     let s : Topology = state_at first log n in
     let f = found_place s.tables session p distinct h in
-    let m = found_move_at s.tables session p f in
+    let m = found_relocation_at s.tables session p f in
     let one = its_start first still log legal n within session.0 p.table (at_number p.tablet) m.0 m.1 in
     let from : session.0 ≤ n = one.numbered.1 in
     let at = is_at p.table one.table p.tablet one.tablet.0 one.move m.0 (sym (one.places n from (omega arith) p.table (at_number p.tablet)) ∙ m.1) in
-    let log2 : one.move.log2 ≡ f.table.map.log2 = ap (λ (y : Move). y.log2) at.2 ∙ m.2 in
+    let log2 : one.move.log2 ≡ f.table.map.log2 = ap (λ (y : Relocation). y.log2) at.2 ∙ m.2 in
     let keys = one.keys n from (omega arith) in
     record {
       table = f.table;
@@ -106,7 +106,7 @@ none_by t rest session None e h = (e, h)
 none_by t rest session (Some n) e h = cc h
 
 -- where none is found, none is shown
-pub none_found : (session : Session) (tables : List Table) (id : TableId) (place : ℕ → ℕ) → place_of_session tables session ≡ None → shown_move session.0 tables id place ≡ None
+pub none_found : (session : Session) (tables : List Table) (id : TableId) (place : ℕ → ℕ) → place_of_session tables session ≡ None → shown_relocation session.0 tables id place ≡ None
 none_found session [] id place h = refl
 none_found session (t ∷ rest) id place h =
     let none = none_by t rest session (position (has_session session) t.map.list) refl h in
@@ -116,7 +116,7 @@ none_found session (t ∷ rest) id place h =
       | inl lt ↦ none_passes (has_session session) t.map.list no_tablet none.0 n lt
       | inr ge ↦ ap (has_session session) (get_or_past t.map.list n no_tablet ge)
     ] in
-    elim (eqb id.0 t.id.0) as (λ v. found_move session.0 place (cond v (Some t) (table_in rest id)) ≡ None) [
+    elim (eqb id.0 t.id.0) as (λ v. found_relocation session.0 place (cond v (Some t) (table_in rest id)) ≡ None) [
       | true ↦ not_shows session t.map.log2 (placed_tablet place t).replicas (placed_tablet place t).transition off
       | false ↦ none_found session rest id place none.1
     ]
@@ -126,6 +126,6 @@ absent_is session s none id token =
     elim (shown_stage session.0 (view s id token)) as (λ o. shown_stage session.0 (view s id token) ≡ o → o ≡ None) [
       | None ↦ λ e. refl
       | Some stage ↦ λ e.
-          let some = found_move_of session.0 (at_token token) (table_in s.tables id) stage e in
-          let no_move : shown_move session.0 s.tables id (at_token token) ≡ None = none_found session s.tables id (at_token token) none in cc
+          let some = found_relocation_of session.0 (at_token token) (table_in s.tables id) stage e in
+          let no_move : shown_relocation session.0 s.tables id (at_token token) ≡ None = none_found session s.tables id (at_token token) none in cc
     ] refl

@@ -1,6 +1,6 @@
 -- The versions at which a session reached its stages.
-use Rattle.std.proofs.Common.{◌≡◌, ◌+◌, ◌-◌, ◌<◌, ◌≤◌, ◌⊎◌, ℕ, ℤ, zero, suc, List, length, cond, eqb, true, false, Option, Some, None, refl, ap, sym, subst, ◌∙◌, arith, inl, inr}
-use Rattle.std.proofs.lemmas.Bool.{cases_eq, cases_lt}
+use Rattle.std.proofs.Common.{◌≡◌, ◌<◌, ◌≤◌, ◌⊎◌, ℕ, ℤ, zero, suc, List, length, true, Option, Some, None, refl, ap, sym, subst, ◌∙◌, arith, inl, inr}
+use Rattle.std.proofs.lemmas.Bool.{cases_eq}
 use Rattle.base_ids.specs.declared.ids.TableId.{TableId}
 use Rattle.stage_graph.specs.declared.stage.Stage.{Stage}
 use Rattle.stage_graph.specs.declared.stage.Stage.TheVariants.{AllowWriteBothReadOld, WriteBothReadOld, Streaming, WriteBothReadNew, UseNew, Cleanup, EndMigration, FallbackCleanup, CleanupTarget, RevertMigration}
@@ -17,7 +17,7 @@ use Rattle.group0_log.specs.Log.{IsLegalLog, first_commands, state_at, state_of,
 use Rattle.log_law.specs.Laws.{IsReachedBefore}
 use Rattle.log_law.specs.Stages.{IsEnteredFrom, IsFrom, IsNotLater, IsReachedAt, IsReachedBy, shown_stage, stage_at, stage_with, view_with}
 use Rattle.log_law.proofs.EnterLemmas.{entered, shown_numbered}
-use Rattle.log_law.proofs.LoggedMoves.{IsStill}
+use Rattle.log_law.proofs.LoggedRelocations.{IsStill}
 use Rattle.log_law.proofs.PrefixLemmas.{legal-first, length-first, state_at-first, state_at-prefix}
 use Rattle.log_law.proofs.RisingLemmas.{before_by_version, not_below, numbered_state, rising_states}
 use Rattle.log_law.proofs.StageLemmas.{stage_since_start}

@@ -27,15 +27,15 @@ use Rattle.topo_state.specs.State.{Topology, table_or_empty}
 use Rattle.topo_state.specs.Tables.{placed_tablet, table_in}
 use Rattle.topo_state.proofs.Passed.{FinalizePasses, StartPasses, finalize_passes, named, start_passes}
 use Rattle.topo_state.proofs.TableLemmas.{no_table_then, none_of, table_in-id, table_then, tablet_in-map, tablet_in-other, tablet_in-set}
-use Rattle.log_law.specs.Moves.{Move, move_of, shown_move, table_move}
-use Rattle.log_law.proofs.LoggedMoves.{found_move, keeps_session, started_move}
+use Rattle.log_law.specs.Relocations.{Relocation, relocation_of, shown_relocation, table_relocation}
+use Rattle.log_law.proofs.LoggedRelocations.{found_relocation, keeps_session, started_relocation}
 
 -- a tablet at rest shows no session
-still_by_cases : (S log2 : ℕ) (replicas : List Replica) (o : Option Transition) → is_moving (record { replicas = replicas; transition = o }) ≡ false → move_of S log2 (record { replicas = replicas; transition = o }) ≡ None
+still_by_cases : (S log2 : ℕ) (replicas : List Replica) (o : Option Transition) → is_moving (record { replicas = replicas; transition = o }) ≡ false → relocation_of S log2 (record { replicas = replicas; transition = o }) ≡ None
 still_by_cases S log2 replicas None h = refl
 still_by_cases S log2 replicas (Some t) h = cc h
 
-pub rest_shows_none : (S log2 : ℕ) (t : Tablet) → is_moving t ≡ false → move_of S log2 t ≡ None
+pub rest_shows_none : (S log2 : ℕ) (t : Tablet) → is_moving t ≡ false → relocation_of S log2 t ≡ None
 rest_shows_none S log2 t h = still_by_cases S log2 t.replicas t.transition h
 
 -- lists at rest
@@ -75,38 +75,38 @@ resized_rest None m h k = h k
 resized_rest (Some d) m h k = resized_by_rest d.kind m h k
 
 -- an advance leaves each session's move, or ends it
-advanced_by_cases : (S log2 : ℕ) (session : Session) (to : Option Stage) (replicas : List Replica) (o : Option Transition) → move_of S log2 (advanced session to (record { replicas = replicas; transition = o })) ≡ cond (keeps_session S (Advance session to)) (move_of S log2 (record { replicas = replicas; transition = o })) None
-advanced_by_cases S log2 session None replicas None = sym (cond_both (not (eqb session.0 S)) None None (λ (x : Option Move). x ≡ None) (λ _. refl) (λ _. refl))
+advanced_by_cases : (S log2 : ℕ) (session : Session) (to : Option Stage) (replicas : List Replica) (o : Option Transition) → relocation_of S log2 (advanced session to (record { replicas = replicas; transition = o })) ≡ cond (keeps_session S (Advance session to)) (relocation_of S log2 (record { replicas = replicas; transition = o })) None
+advanced_by_cases S log2 session None replicas None = sym (cond_both (not (eqb session.0 S)) None None (λ (x : Option Relocation). x ≡ None) (λ _. refl) (λ _. refl))
 advanced_by_cases S log2 session (Some stage) replicas None = refl
 advanced_by_cases S log2 session (Some stage) replicas (Some t) =
-    cond_both (eqb t.session.0 session.0) _ _ (λ (x : Tablet). move_of S log2 x ≡ move_of S log2 (record { replicas = replicas; transition = Some t })) (λ _. refl) (λ _. refl)
+    cond_both (eqb t.session.0 session.0) _ _ (λ (x : Tablet). relocation_of S log2 x ≡ relocation_of S log2 (record { replicas = replicas; transition = Some t })) (λ _. refl) (λ _. refl)
 advanced_by_cases S log2 session None replicas (Some t) =
     elim (cases_eq t.session.0 session.0) [
       | inl e ↦
           let p : eqb t.session.0 session.0 ≡ true = eq-eqb t.session.0 session.0 e in
-          let ended : move_of S log2 (advanced session None (record { replicas = replicas; transition = Some t })) ≡ None =
-          ap (λ (v : Bool). move_of S log2 (cond v (moved_on t replicas None) (record { replicas = replicas; transition = Some t }))) p ∙ cond_both (is_end t.stage) _ _ (λ (x : Tablet). move_of S log2 x ≡ None) (λ _. refl) (λ _. refl) in
+          let ended : relocation_of S log2 (advanced session None (record { replicas = replicas; transition = Some t })) ≡ None =
+          ap (λ (v : Bool). relocation_of S log2 (cond v (moved_on t replicas None) (record { replicas = replicas; transition = Some t }))) p ∙ cond_both (is_end t.stage) _ _ (λ (x : Tablet). relocation_of S log2 x ≡ None) (λ _. refl) (λ _. refl) in
           ended ∙ sym (elim (cases_eq session.0 S) [
             | inl f ↦ (let q : eqb session.0 S ≡ true = eq-eqb session.0 S f in rw q refl)
             | inr f ↦ (let q : eqb session.0 S ≡ false = ne_eqb session.0 S f in let r : eqb t.session.0 S ≡ false = ne_eqb t.session.0 S (λ g. f (sym e ∙ g)) in rw (q, r) refl)
           ])
       | inr e ↦
           let p : eqb t.session.0 session.0 ≡ false = ne_eqb t.session.0 session.0 e in
-          let kept : move_of S log2 (advanced session None (record { replicas = replicas; transition = Some t })) ≡ move_of S log2 (record { replicas = replicas; transition = Some t }) =
-          ap (λ (v : Bool). move_of S log2 (cond v (moved_on t replicas None) (record { replicas = replicas; transition = Some t }))) p in
+          let kept : relocation_of S log2 (advanced session None (record { replicas = replicas; transition = Some t })) ≡ relocation_of S log2 (record { replicas = replicas; transition = Some t }) =
+          ap (λ (v : Bool). relocation_of S log2 (cond v (moved_on t replicas None) (record { replicas = replicas; transition = Some t }))) p in
           kept ∙ (elim (cases_eq session.0 S) [
             | inl f ↦ (let q : eqb session.0 S ≡ true = eq-eqb session.0 S f in let r : eqb t.session.0 S ≡ false = ne_eqb t.session.0 S (λ g. e (g ∙ sym f)) in rw (q, r) refl)
             | inr f ↦ (let q : eqb session.0 S ≡ false = ne_eqb session.0 S f in rw q refl)
           ])
     ]
 
-pub move_of-advanced : (S log2 : ℕ) (session : Session) (to : Option Stage) (t : Tablet) → move_of S log2 (advanced session to t) ≡ cond (keeps_session S (Advance session to)) (move_of S log2 t) None
-move_of-advanced S log2 session to t = advanced_by_cases S log2 session to t.replicas t.transition
+pub relocation_of-advanced : (S log2 : ℕ) (session : Session) (to : Option Stage) (t : Tablet) → relocation_of S log2 (advanced session to t) ≡ cond (keeps_session S (Advance session to)) (relocation_of S log2 t) None
+relocation_of-advanced S log2 session to t = advanced_by_cases S log2 session to t.replicas t.transition
 
 -- a table that is made shows no session
-pub created_shows_none : (S : ℕ) (place : ℕ → ℕ) (c : Command) (id : TableId) → found_move S place (table_in (created_tables c) id) ≡ None
+pub created_shows_none : (S : ℕ) (place : ℕ → ℕ) (c : Command) (id : TableId) → found_relocation S place (table_in (created_tables c) id) ≡ None
 created_shows_none S place (CreateTable x log2 replicas) id =
-    cond_both (eqb id.0 x.0) _ _ (λ (o : Option Table). found_move S place o ≡ None)
+    cond_both (eqb id.0 x.0) _ _ (λ (o : Option Table). found_relocation S place o ≡ None)
     (λ _. rest_shows_none S log2 (tablet_in (replicate (2 ^ log2) (at_rest replicas)) (place log2)) (replicated_rest (2 ^ log2) (place log2) replicas)) (λ _. refl)
 created_shows_none S place (Start x tablet leaving pending) id = refl
 created_shows_none S place (Advance session to) id = refl
@@ -117,55 +117,55 @@ created_shows_none S place (Resize x kind) id = refl
 created_shows_none S place (FinalizeResize x seq) id = refl
 
 -- where the session of this number is not shown yet
-kept : (S i : ℕ) (f : ℕ → Option Move) → f i ≡ None → f S ≡ cond (eqb S i) None (f S)
+kept : (S i : ℕ) (f : ℕ → Option Relocation) → f i ≡ None → f S ≡ cond (eqb S i) None (f S)
 kept S i f fresh =
     elim (cases_eq S i) [
       | inl e ↦ (let p : eqb S i ≡ true = eq-eqb S i e in rw p (ap f e ∙ fresh))
       | inr e ↦ (let p : eqb S i ≡ false = ne_eqb S i e in rw p refl)
     ]
 
-neither : (a b : Bool) (n o : Option Move) → n ≡ None → o ≡ None → cond a n (cond b o None) ≡ None
+neither : (a b : Bool) (n o : Option Relocation) → n ≡ None → o ≡ None → cond a n (cond b o None) ≡ None
 neither true b n o p q = p
 neither false true n o p q = q
 neither false false n o p q = refl
 
-nothing : (b : Bool) (x y : Option Move) → x ≡ None → y ≡ None → x ≡ cond b None y
+nothing : (b : Bool) (x y : Option Relocation) → x ≡ None → y ≡ None → x ≡ cond b None y
 nothing true x y p q = p
 nothing false x y p q = p ∙ sym q
 
 abbrev Goal : Topology → Command → ℕ → ℕ → (ℕ → ℕ) → Table → Type 0
-Goal s c i S place t = table_move S place (table_after c i t) ≡ cond (eqb S i) (started_move s c t.id place) (cond (keeps_session S c) (table_move S place t) None)
+Goal s c i S place t = table_relocation S place (table_after c i t) ≡ cond (eqb S i) (started_relocation s c t.id place) (cond (keeps_session S c) (table_relocation S place t) None)
 
-move_of-set : (S i : ℕ) (place : ℕ → ℕ) (t : Table) (k : ℕ) (leaving pending : Replica) → k < length t.map.list → is_moving (tablet_in t.map.list k) ≡ false → table_move i place t ≡ None → move_of S t.map.log2 (tablet_in (set t.map.list k (started (tablet_in t.map.list k) leaving pending (record { 0 = i }))) (place t.map.log2)) ≡ cond (eqb S i) (cond (eqb (place t.map.log2) k) (Some (record { log2 = t.map.log2; replicas = (tablet_in t.map.list k).replicas; leaving = leaving; pending = pending })) None) (table_move S place t)
-move_of-set S i place t k leaving pending lt rests fresh =
+relocation_of-set : (S i : ℕ) (place : ℕ → ℕ) (t : Table) (k : ℕ) (leaving pending : Replica) → k < length t.map.list → is_moving (tablet_in t.map.list k) ≡ false → table_relocation i place t ≡ None → relocation_of S t.map.log2 (tablet_in (set t.map.list k (started (tablet_in t.map.list k) leaving pending (record { 0 = i }))) (place t.map.log2)) ≡ cond (eqb S i) (cond (eqb (place t.map.log2) k) (Some (record { log2 = t.map.log2; replicas = (tablet_in t.map.list k).replicas; leaving = leaving; pending = pending })) None) (table_relocation S place t)
+relocation_of-set S i place t k leaving pending lt rests fresh =
     elim (cases_eq (place t.map.log2) k) [
       | inl e ↦
           let p : eqb (place t.map.log2) k ≡ true = eq-eqb (place t.map.log2) k e in
           let x : Tablet = started (tablet_in t.map.list k) leaving pending (record { 0 = i }) in
           let here : tablet_in (set t.map.list k x) (place t.map.log2) ≡ x = ap (tablet_in (set t.map.list k x)) e ∙ tablet_in-set t.map.list k x lt in
-          let was : table_move S place t ≡ None = ap (λ n. move_of S t.map.log2 (tablet_in t.map.list n)) e ∙ rest_shows_none S t.map.log2 (tablet_in t.map.list k) rests in
-          ap (move_of S t.map.log2) here ∙ (elim (cases_eq S i) [
+          let was : table_relocation S place t ≡ None = ap (λ n. relocation_of S t.map.log2 (tablet_in t.map.list n)) e ∙ rest_shows_none S t.map.log2 (tablet_in t.map.list k) rests in
+          ap (relocation_of S t.map.log2) here ∙ (elim (cases_eq S i) [
             | inl f ↦ (let q : eqb S i ≡ true = eq-eqb S i f in let r : eqb i S ≡ true = eq-eqb i S (sym f) in rw (q, r, p) refl)
             | inr f ↦ (let q : eqb S i ≡ false = ne_eqb S i f in let r : eqb i S ≡ false = ne_eqb i S (λ g. f (sym g)) in rw (q, r) (sym was))
           ])
       | inr e ↦
           let p : eqb (place t.map.log2) k ≡ false = ne_eqb (place t.map.log2) k e in
           let x : Tablet = started (tablet_in t.map.list k) leaving pending (record { 0 = i }) in
-          rw p (ap (move_of S t.map.log2) (tablet_in-other t.map.list k (place t.map.log2) x e) ∙ kept S i (λ n. table_move n place t) fresh)
+          rw p (ap (relocation_of S t.map.log2) (tablet_in-other t.map.list k (place t.map.log2) x e) ∙ kept S i (λ n. table_relocation n place t) fresh)
     ]
 
-start_at : (s : Topology) (i S : ℕ) (place : ℕ → ℕ) (t : Table) (id : TableId) (tablet : TabletId) (leaving pending : Replica) → StartPasses s id tablet leaving pending → table_or_empty s id ≡ t → id ≡ t.id → table_move i place t ≡ None → Goal s (Start id tablet leaving pending) i S place t
+start_at : (s : Topology) (i S : ℕ) (place : ℕ → ℕ) (t : Table) (id : TableId) (tablet : TabletId) (leaving pending : Replica) → StartPasses s id tablet leaving pending → table_or_empty s id ≡ t → id ≡ t.id → table_relocation i place t ≡ None → Goal s (Start id tablet leaving pending) i S place t
 start_at s i S place t id tablet leaving pending passes is same fresh =
     let p : eqb id.0 t.id.0 ≡ true = eq-eqb id.0 t.id.0 (ap (λ (x : TableId). x.0) same) in
     let q : eqb t.id.0 id.0 ≡ true = eq-eqb t.id.0 id.0 (ap (λ (x : TableId). x.0) (sym same)) in
     let lt : tablet.0 < length t.map.list = ltb-true tablet.0 (length t.map.list) (rw is at passes.below) in
     let rests : is_moving (tablet_in t.map.list tablet.0) ≡ false = (rw is at passes.rests) in
-    rw (p, q, is) (move_of-set S i place t tablet.0 leaving pending lt rests fresh)
+    rw (p, q, is) (relocation_of-set S i place t tablet.0 leaving pending lt rests fresh)
 
-start_elsewhere : (s : Topology) (i S : ℕ) (place : ℕ → ℕ) (t : Table) (id : TableId) (tablet : TabletId) (leaving pending : Replica) → eqb id.0 t.id.0 ≡ false → table_move i place t ≡ None → Goal s (Start id tablet leaving pending) i S place t
+start_elsewhere : (s : Topology) (i S : ℕ) (place : ℕ → ℕ) (t : Table) (id : TableId) (tablet : TabletId) (leaving pending : Replica) → eqb id.0 t.id.0 ≡ false → table_relocation i place t ≡ None → Goal s (Start id tablet leaving pending) i S place t
 start_elsewhere s i S place t id tablet leaving pending apart fresh =
     let turned : eqb t.id.0 id.0 ≡ false = grind arith in
-    rw (apart, turned) (kept S i (λ n. table_move n place t) fresh)
+    rw (apart, turned) (kept S i (λ n. table_relocation n place t) fresh)
 
 finalize_at : (s : Topology) (i S : ℕ) (place : ℕ → ℕ) (t : Table) (id : TableId) (seq : Session) → FinalizePasses s id seq → table_or_empty s id ≡ t → id ≡ t.id → Goal s (FinalizeResize id seq) i S place t
 finalize_at s i S place t id seq passes is same =
@@ -174,13 +174,13 @@ finalize_at s i S place t id seq passes is same =
     let rests : (k : ℕ) → is_moving (tablet_in t.map.list k) ≡ false = all_rest t.map.list (none_of (least_moving t.map.list) none) in
     let m : Tablets = resized t.resize t.map in
     rw p
-    (nothing (eqb S i) (move_of S m.log2 (tablet_in m.list (place m.log2))) (table_move S place t)
+    (nothing (eqb S i) (relocation_of S m.log2 (tablet_in m.list (place m.log2))) (table_relocation S place t)
     (rest_shows_none S m.log2 (tablet_in m.list (place m.log2)) (resized_rest t.resize t.map rests (place m.log2)))
     (rest_shows_none S t.map.log2 (tablet_in t.map.list (place t.map.log2)) (rests (place t.map.log2))))
 
-table_move_after : (s : Topology) (c : Command) (i : ℕ) → rule s c ≡ None → (S : ℕ) (id : TableId) (place : ℕ → ℕ) (t : Table) → table_in s.tables id ≡ Some t → table_move i place t ≡ None → Goal s c i S place t
-table_move_after s (CreateTable x log2 replicas) i ok S id place t e fresh = kept S i (λ n. table_move n place t) fresh
-table_move_after s (Start x tablet leaving pending) i ok S id place t e fresh =
+table_relocation_after : (s : Topology) (c : Command) (i : ℕ) → rule s c ≡ None → (S : ℕ) (id : TableId) (place : ℕ → ℕ) (t : Table) → table_in s.tables id ≡ Some t → table_relocation i place t ≡ None → Goal s c i S place t
+table_relocation_after s (CreateTable x log2 replicas) i ok S id place t e fresh = kept S i (λ n. table_relocation n place t) fresh
+table_relocation_after s (Start x tablet leaving pending) i ok S id place t e fresh =
     elim (eqb x.0 t.id.0) as (λ v. eqb x.0 t.id.0 ≡ v → Goal s (Start x tablet leaving pending) i S place t) [
       | true ↦ λ h.
           let same : x ≡ t.id = ap (λ (n : ℕ). let r : TableId = record { 0 = n } in r) (eqb-true x.0 t.id.0 h) in
@@ -188,29 +188,29 @@ table_move_after s (Start x tablet leaving pending) i ok S id place t e fresh =
           start_at s i S place t x tablet leaving pending (start_passes s x tablet leaving pending ok) (named s x t found) same fresh
       | false ↦ λ h. start_elsewhere s i S place t x tablet leaving pending h fresh
     ] refl
-table_move_after s (Advance session to) i ok S id place t e fresh =
-    ap (move_of S t.map.log2) (tablet_in-map (advanced session to) refl t.map.list (place t.map.log2)) ∙
-    (move_of-advanced S t.map.log2 session to (placed_tablet place t) ∙
-    kept S i (λ n. cond (keeps_session n (Advance session to)) (table_move n place t) None) (cond_both (keeps_session i (Advance session to)) _ _ (λ (o : Option Move). o ≡ None) (λ _. fresh) (λ _. refl)))
-table_move_after s (SetFence fence) i ok S id place t e fresh = kept S i (λ n. table_move n place t) fresh
-table_move_after s (Join host) i ok S id place t e fresh = kept S i (λ n. table_move n place t) fresh
-table_move_after s (Leave host) i ok S id place t e fresh = kept S i (λ n. table_move n place t) fresh
-table_move_after s (Resize x kind) i ok S id place t e fresh =
-    cond_both (eqb x.0 t.id.0) _ _ (λ (y : Table). table_move S place y ≡ table_move S place t) (λ _. refl) (λ _. refl) ∙ kept S i (λ n. table_move n place t) fresh
-table_move_after s (FinalizeResize x seq) i ok S id place t e fresh =
+table_relocation_after s (Advance session to) i ok S id place t e fresh =
+    ap (relocation_of S t.map.log2) (tablet_in-map (advanced session to) refl t.map.list (place t.map.log2)) ∙
+    (relocation_of-advanced S t.map.log2 session to (placed_tablet place t) ∙
+    kept S i (λ n. cond (keeps_session n (Advance session to)) (table_relocation n place t) None) (cond_both (keeps_session i (Advance session to)) _ _ (λ (o : Option Relocation). o ≡ None) (λ _. fresh) (λ _. refl)))
+table_relocation_after s (SetFence fence) i ok S id place t e fresh = kept S i (λ n. table_relocation n place t) fresh
+table_relocation_after s (Join host) i ok S id place t e fresh = kept S i (λ n. table_relocation n place t) fresh
+table_relocation_after s (Leave host) i ok S id place t e fresh = kept S i (λ n. table_relocation n place t) fresh
+table_relocation_after s (Resize x kind) i ok S id place t e fresh =
+    cond_both (eqb x.0 t.id.0) _ _ (λ (y : Table). table_relocation S place y ≡ table_relocation S place t) (λ _. refl) (λ _. refl) ∙ kept S i (λ n. table_relocation n place t) fresh
+table_relocation_after s (FinalizeResize x seq) i ok S id place t e fresh =
     elim (eqb x.0 t.id.0) as (λ v. eqb x.0 t.id.0 ≡ v → Goal s (FinalizeResize x seq) i S place t) [
       | true ↦ λ h.
           let same : x ≡ t.id = ap (λ (n : ℕ). let r : TableId = record { 0 = n } in r) (eqb-true x.0 t.id.0 h) in
           let found : table_in s.tables x ≡ Some t = ap (table_in s.tables) (same ∙ sym (table_in-id s.tables id t e)) ∙ e in
           finalize_at s i S place t x seq (finalize_passes s x seq ok) (named s x t found) same
-      | false ↦ λ h. rw h (kept S i (λ n. table_move n place t) fresh)
+      | false ↦ λ h. rw h (kept S i (λ n. table_relocation n place t) fresh)
     ] refl
 
 -- a start of a table that is not there is refused
-no_start_of : (s : Topology) (c : Command) → rule s c ≡ None → (id : TableId) (place : ℕ → ℕ) → table_in s.tables id ≡ None → started_move s c id place ≡ None
+no_start_of : (s : Topology) (c : Command) → rule s c ≡ None → (id : TableId) (place : ℕ → ℕ) → table_in s.tables id ≡ None → started_relocation s c id place ≡ None
 no_start_of s (CreateTable x log2 replicas) ok id place e = refl
 no_start_of s (Start x tablet leaving pending) ok id place e =
-    cond_both (eqb id.0 x.0 && eqb (place (table_or_empty s x).map.log2) tablet.0) _ _ (λ (o : Option Move). o ≡ None)
+    cond_both (eqb id.0 x.0 && eqb (place (table_or_empty s x).map.log2) tablet.0) _ _ (λ (o : Option Relocation). o ≡ None)
     (λ h.
     let n : id.0 ≡ x.0 = eqb-true id.0 x.0 (and_left (eqb id.0 x.0) (eqb (place (table_or_empty s x).map.log2) tablet.0) h) in
     let same : id ≡ x = ap (λ (k : ℕ). let r : TableId = record { 0 = k } in r) n in
@@ -225,15 +225,15 @@ no_start_of s (FinalizeResize x seq) ok id place e = refl
 
 -- What is shown after an accepted command: of the session of its number what it starts, and of another what was shown
 -- before, unless it ends it.
-pub shown_move_after : (s : Topology) (c : Command) (i : ℕ) → rule s c ≡ None → (S : ℕ) (id : TableId) (place : ℕ → ℕ) → shown_move i s.tables id place ≡ None → shown_move S (after s c i).tables id place ≡ cond (eqb S i) (started_move s c id place) (cond (keeps_session S c) (shown_move S s.tables id place) None)
-shown_move_after s c i ok S id place fresh =
-    elim (table_in s.tables id) as (λ o. table_in s.tables id ≡ o → shown_move S (after s c i).tables id place ≡ cond (eqb S i) (started_move s c id place) (cond (keeps_session S c) (shown_move S s.tables id place) None)) [
+pub shown_relocation_after : (s : Topology) (c : Command) (i : ℕ) → rule s c ≡ None → (S : ℕ) (id : TableId) (place : ℕ → ℕ) → shown_relocation i s.tables id place ≡ None → shown_relocation S (after s c i).tables id place ≡ cond (eqb S i) (started_relocation s c id place) (cond (keeps_session S c) (shown_relocation S s.tables id place) None)
+shown_relocation_after s c i ok S id place fresh =
+    elim (table_in s.tables id) as (λ o. table_in s.tables id ≡ o → shown_relocation S (after s c i).tables id place ≡ cond (eqb S i) (started_relocation s c id place) (cond (keeps_session S c) (shown_relocation S s.tables id place) None)) [
       | None ↦ λ e.
-          ap (found_move S place) (no_table_then s c i id e) ∙ (created_shows_none S place c id ∙ sym
-          (neither (eqb S i) (keeps_session S c) (started_move s c id place) (shown_move S s.tables id place) (no_start_of s c ok id place e) (ap (found_move S place) e)))
+          ap (found_relocation S place) (no_table_then s c i id e) ∙ (created_shows_none S place c id ∙ sym
+          (neither (eqb S i) (keeps_session S c) (started_relocation s c id place) (shown_relocation S s.tables id place) (no_start_of s c ok id place e) (ap (found_relocation S place) e)))
       | Some t ↦ λ e.
-          let f : table_move i place t ≡ None = sym (ap (found_move i place) e) ∙ fresh in
-          ap (found_move S place) (table_then s c i id t e) ∙ (table_move_after s c i ok S id place t e f ∙ sym
-          (ap (λ (x : TableId). cond (eqb S i) (started_move s c x place) (cond (keeps_session S c) (shown_move S s.tables id place) None)) (table_in-id s.tables id t e) ∙
-          ap (λ (o : Option Table). cond (eqb S i) (started_move s c t.id place) (cond (keeps_session S c) (found_move S place o) None)) e))
+          let f : table_relocation i place t ≡ None = sym (ap (found_relocation i place) e) ∙ fresh in
+          ap (found_relocation S place) (table_then s c i id t e) ∙ (table_relocation_after s c i ok S id place t e f ∙ sym
+          (ap (λ (x : TableId). cond (eqb S i) (started_relocation s c x place) (cond (keeps_session S c) (shown_relocation S s.tables id place) None)) (table_in-id s.tables id t e) ∙
+          ap (λ (o : Option Table). cond (eqb S i) (started_relocation s c t.id place) (cond (keeps_session S c) (found_relocation S place o) None)) e))
     ] refl

@@ -1,9 +1,9 @@
 -- Two views one step apart select among the lists of one move.
-use Rattle.std.specs.Prelude.{◌≡◌, ◌⊎◌, ◌==◌, ◌&&◌, ◌||◌, Bool, true, false, not, List, Option, Some, None, if◌then◌else◌, count_by}
+use Rattle.std.specs.Prelude.{◌≡◌, ◌⊎◌, ◌==◌, ◌&&◌, ◌||◌, Bool, true, false, not, Option, Some, None, if◌then◌else◌, count_by}
 use Rattle.base_ids.specs.Replicas.{has_replica, has_host}
 use Rattle.base_ids.specs.declared.ids.Replica.{Replica}
 use Rattle.stage_graph.specs.declared.stage.Stage.{Stage}
-use Rattle.stage_graph.specs.declared.stage.Stage.TheVariants.{AllowWriteBothReadOld, WriteBothReadOld, Streaming, WriteBothReadNew, Cleanup, EndMigration, FallbackCleanup, CleanupTarget, RevertMigration}
+use Rattle.stage_graph.specs.declared.stage.Stage.TheVariants.{AllowWriteBothReadOld, WriteBothReadOld, Streaming, WriteBothReadNew, EndMigration, FallbackCleanup, RevertMigration}
 use Rattle.stage_graph.specs.declared.table.Selector.{Selector}
 use Rattle.stage_graph.specs.declared.table.Selector.TheVariants.{Old, Both, New}
 use Rattle.stage_graph.specs.Table.{reads, writes, extra}

@@ -1,6 +1,5 @@
 -- What holds along each legal log, from an opening on. `count` is how many commands a state comes after.
 use Rattle.std.specs.Prelude.{◌≡◌, ◌+◌, ◌<◌, ◌≤◌, ℕ, true, List, length, Option, Some, None}
-use Rattle.std.specs.List.{All}
 use Rattle.base_ids.specs.declared.ids.HostId.{HostId}
 use Rattle.base_ids.specs.declared.ids.Session.{Session}
 use Rattle.base_ids.specs.declared.ids.TableId.{TableId}
@@ -21,9 +20,9 @@ use Rattle.topo_state.specs.Sound.{IsOnMembers, IsTopology}
 use Rattle.topo_state.specs.Views.{view}
 use Rattle.group0_log.specs.Log.{IsLegalLog, state_of, state_at, state_with, command_at}
 use Rattle.group0_log.specs.Versions.{raises, IsKnown, IsLatest, IsFenced}
-use Rattle.log_law.specs.Stages.{shown_stage, stage_at, view_with, stage_with, IsNotLater, IsFrom, IsReachedAt, IsReachedBy, IsEnteredFrom}
+use Rattle.log_law.specs.Stages.{stage_at, view_with, stage_with, IsNotLater, IsFrom, IsReachedAt, IsReachedBy, IsEnteredFrom}
 use Rattle.log_law.specs.Steps.{ViewStep}
-use Rattle.log_law.specs.Moves.{shown_move, IsItsStart, IsPlaceOf, AreDecided}
+use Rattle.log_law.specs.Relocations.{IsItsStart, IsPlaceOf, AreDecided}
 use Rattle.log_law.specs.Pairs.{IsPair}
 
 -- a statement holds of each legal log from each opening

@@ -16,49 +16,49 @@ use Rattle.topo_state.specs.declared.command.Command.{Command}
 use Rattle.topo_state.specs.declared.command.Command.TheVariants.{Start, Resize}
 use Rattle.topo_state.specs.State.{Topology}
 use Rattle.topo_state.specs.Tables.{table_in, placed_tablet}
-use Rattle.topo_state.specs.Sessions.{SessionPlace, place_of_session}
+use Rattle.topo_state.specs.Sessions.{SessionPlace}
 use Rattle.topo_state.specs.Views.{view}
 use Rattle.group0_log.specs.Log.{state_at, command_at}
 use Rattle.log_law.specs.Stages.{shown_stage}
 
 -- all of a move but its stage: how far its table's ring is divided, the tablet's list, and the two replicas
-pub record Move : Type 0 where
+pub record Relocation : Type 0 where
   pub log2 : ℕ
   pub replicas : List Replica
   pub leaving : Replica
   pub pending : Replica
 
-abbrev pub move_in : ℕ → List Replica → Transition → Move
-move_in log2 replicas t = record { log2 = log2; replicas = replicas; leaving = t.leaving; pending = t.pending }
+abbrev pub relocation_in : ℕ → List Replica → Transition → Relocation
+relocation_in log2 replicas t = record { log2 = log2; replicas = replicas; leaving = t.leaving; pending = t.pending }
 
 -- the move of a tablet, where its transition has the session
-abbrev pub move_of : ℕ → ℕ → Tablet → Option Move
-move_of session log2 tablet =
+abbrev pub relocation_of : ℕ → ℕ → Tablet → Option Relocation
+relocation_of session log2 tablet =
     elim tablet.transition [
       | None ↦ None
-      | Some t ↦ if t.session.0 == session then Some (move_in log2 tablet.replicas t) else None
+      | Some t ↦ if t.session.0 == session then Some (relocation_in log2 tablet.replicas t) else None
     ]
 
 -- the same of the tablet that a place means in a table
-abbrev pub table_move : ℕ → (ℕ → ℕ) → Table → Option Move
-table_move session place table = move_of session table.map.log2 (placed_tablet place table)
+abbrev pub table_relocation : ℕ → (ℕ → ℕ) → Table → Option Relocation
+table_relocation session place table = relocation_of session table.map.log2 (placed_tablet place table)
 
 -- the same of the table of a number; none where it is not there
-abbrev pub shown_move : ℕ → List Table → TableId → (ℕ → ℕ) → Option Move
-shown_move session tables id place = option_and_then (table_move session place) (table_in tables id)
+abbrev pub shown_relocation : ℕ → List Table → TableId → (ℕ → ℕ) → Option Relocation
+shown_relocation session tables id place = option_and_then (table_relocation session place) (table_in tables id)
 
 -- this move at that tablet of that table, and none elsewhere
-abbrev pub only_move : TableId → TabletId → Move → TableId → (ℕ → ℕ) → Option Move
-only_move table tablet move id place = if same_table id table && (place move.log2 == tablet.0) then Some move else None
+abbrev pub only_relocation : TableId → TabletId → Relocation → TableId → (ℕ → ℕ) → Option Relocation
+only_relocation table tablet move id place = if same_table id table && (place move.log2 == tablet.0) then Some move else None
 
 -- The session has this move at that tablet of that table, and is nowhere else.
-abbrev pub IsAloneAt : ℕ → Topology → TableId → TabletId → Move → Type 0
+abbrev pub IsAloneAt : ℕ → Topology → TableId → TabletId → Relocation → Type 0
 IsAloneAt session state table tablet move =
     (id : TableId) (place : ℕ → ℕ) →
-    shown_move session state.tables id place ≡ only_move table tablet move id place
+    shown_relocation session state.tables id place ≡ only_relocation table tablet move id place
 
 -- a view has the session, with this move
-pub record Shows (session : ℕ) (view : Option Tablet) (move : Move) : Type 0 where
+pub record Shows (session : ℕ) (view : Option Tablet) (move : Relocation) : Type 0 where
   pub tablet : Tablet
   pub transition : Transition
   pub here : view ≡ Some tablet
@@ -69,7 +69,7 @@ pub record Shows (session : ℕ) (view : Option Tablet) (move : Move) : Type 0 w
   pub pending : transition.pending ≡ move.pending
 
 -- The keys that show the session in a state are those whose token lies in that tablet of that table.
-pub record IsOfKeys (session : ℕ) (state : Topology) (table : TableId) (tablet : TabletId) (move : Move) : Type 0 where
+pub record IsOfKeys (session : ℕ) (state : Topology) (table : TableId) (tablet : TabletId) (move : Relocation) : Type 0 where
   pub inside : (token : ℤ) → tablet_at move.log2 token ≡ tablet.0 → Shows session (view state table token) move
   pub outside : (id : TableId) (token : ℤ) (stage : Stage) → shown_stage session (view state id token) ≡ Some stage →
       (id ≡ table) × (tablet_at move.log2 token ≡ tablet.0)
@@ -79,7 +79,7 @@ pub record IsOfKeys (session : ℕ) (state : Topology) (table : TableId) (tablet
 pub record IsItsStart (first : Topology) (log : List Command) (last : ℕ) (session : ℕ) : Type 0 where
   pub table : TableId
   pub tablet : TabletId
-  pub move : Move
+  pub move : Relocation
   pub numbered : (1 ≤ session) × (session ≤ last)
   pub started : command_at log session ≡ Some (Start table tablet move.leaving move.pending)
   pub places : (count : ℕ) → session ≤ count → count ≤ last →
