@@ -13,5 +13,5 @@ mod tables;
 
 pub use command::{Command, Rule};
 pub use data::{Resize, ResizeKind, Table, TableList};
-pub use moves::{Move, has_split, move_of};
+pub use moves::{Move, has_split, move_of, split_table};
 pub use state::TopoState;
