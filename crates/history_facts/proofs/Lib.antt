@@ -3,3 +3,5 @@ pub mod EntryLemmas
 pub mod LegalLemmas
 pub mod BegunLemmas
 pub mod LiveLemmas
+pub mod HostLemmas
+pub mod RouteLemmas
