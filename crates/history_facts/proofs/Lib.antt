@@ -5,3 +5,4 @@ pub mod BegunLemmas
 pub mod LiveLemmas
 pub mod HostLemmas
 pub mod RouteLemmas
+pub mod SentLemmas
