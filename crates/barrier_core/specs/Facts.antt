@@ -30,6 +30,10 @@ has_told facts what host = list_any (same_told (record { from = host; what = wha
 abbrev pub is_told : List Told → What → Bool
 is_told facts what = list_any (λ (told : Told). same_what what told.what) facts
 
+-- a list of kinds has it
+abbrev pub has_kind : List What → What → Bool
+has_kind kinds what = list_any (same_what what) kinds
+
 -- each host of a list has told it
 abbrev pub all_told : List Told → What → List HostId → Bool
 all_told facts what hosts = list_all (has_told facts what) hosts
@@ -65,14 +69,16 @@ complete_mode facts version members before =
 
 -- ---- hosts that are waited for
 
-abbrev pub lesser_host : HostId → Option HostId → HostId
-lesser_host host None = host
-lesser_host host (Some other) = if nat_lt other.0 host.0 then other else host
+-- the host of the lesser number
+abbrev pub lesser_host : Option HostId → Option HostId → Option HostId
+lesser_host None b = b
+lesser_host (Some a) None = Some a
+lesser_host (Some a) (Some b) = Some (if nat_lt b.0 a.0 then b else a)
 
 -- the host of the least number
 abbrev pub least_host : List HostId → Option HostId
 least_host [] = None
-least_host (host ∷ rest) = Some (lesser_host host (least_host rest))
+least_host (host ∷ rest) = lesser_host (Some host) (least_host rest)
 
 -- the least host of a list that has not told it
 abbrev pub least_without : List Told → What → List HostId → Option HostId

@@ -3,5 +3,7 @@
 #![tactic(auto)]
 
 mod data;
+mod evidence;
 
 pub use data::{Ask, Fact, Mode, Told, What};
+pub use evidence::{Evidence, lesser_host};

@@ -1,5 +1,5 @@
 pub mod Counts
 pub mod Given
-pub mod Held
 pub mod Memory
 pub mod Real
+pub mod Written

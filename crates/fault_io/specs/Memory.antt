@@ -23,7 +23,7 @@ pub record SourceState : Type 0 where
 -- what is known of a sink in memory
 pub record SinkState : Type 0 where
   -- the bytes that were taken
-  pub held : List ℕ
+  pub content : List ℕ
   -- how many bytes a call takes at most, and how many all calls take
   pub piece : ℕ
   pub room : ℕ
@@ -52,7 +52,7 @@ source_after s Failed = record s { calls = raised_by s.calls 1; faults = raised_
 
 -- how many bytes of a piece a sink has room for
 abbrev pub fitting : SinkState → ℕ → ℕ
-fitting s length_of_piece = min (min s.piece length_of_piece) (s.room - length s.held)
+fitting s length_of_piece = min (min s.piece length_of_piece) (s.room - length s.content)
 
 -- what a sink answers to a piece of this length
 abbrev pub sink_answer : SinkState → ℕ → Placed
@@ -62,5 +62,5 @@ sink_answer s length_of_piece =
 
 -- the sink after that answer to a piece
 abbrev pub sink_after : SinkState → List ℕ → Placed → SinkState
-sink_after s piece (Took n) = record s { held = s.held ++ take n piece; calls = raised_by s.calls 1 }
+sink_after s piece (Took n) = record s { content = s.content ++ take n piece; calls = raised_by s.calls 1 }
 sink_after s piece PutFailed = record s { calls = raised_by s.calls 1; faults = raised_by s.faults 1 }

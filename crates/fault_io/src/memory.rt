@@ -1,7 +1,7 @@
 ghost use Rattle.std.specs.Prelude.{◌≡◌, ℕ, ◌≤◌, ◌<◌, ◌+◌, ◌++◌, ◌-◌, min, [], length, take, drop, IfSome, IfOk, Some};
 ghost use Rattle.fault_io.specs.Counts.{raised_by, Rose};
-ghost use Rattle.fault_io.specs.Given.{TakesWithin, bytes_taken, IsEnd, before_left};
-ghost use Rattle.fault_io.specs.Held.{PlacesWithin, bytes_placed, after_held};
+ghost use Rattle.fault_io.specs.Given.{TakesWithin, bytes_taken, IsEnd, IsQuietTaken, before_left};
+ghost use Rattle.fault_io.specs.Written.{PlacesWithin, bytes_placed, IsQuietPlaced, content_after};
 ghost use Rattle.fault_io.specs.Memory.{is_failing, source_answer, source_after, sink_answer, sink_after};
 
 use crate::reading::{Source, Taken};
@@ -88,19 +88,17 @@ impl MemorySource {
 }
 
 impl Source for MemorySource {
-    ghost left = { λ s. Some s.left };
-
-    ghost faults = { λ s. s.faults };
-
-    ghost given = { λ s. s.given };
+    ghost account = { λ s. record { left = Some s.left; given = s.given; calls = s.calls; faults = s.faults } };
 
     fn next(&mut self, buf: &mut [u8]) -> Taken
         ensures room { TakesWithin result (length buf.old) }
         ensures bytes { Some self.old.left ≡ before_left (bytes_taken result buf.new) (Some self.new.left) }
         ensures end { IsEnd result (length buf.old) → IfSome (Some self.old.left) (λ bytes. bytes ≡ []) }
-        ensures count { self.new.given ≡ raised_by self.old.given (length (bytes_taken result buf.new)) }
+        ensures given { self.new.given ≡ raised_by self.old.given (length (bytes_taken result buf.new)) }
+        ensures called { self.new.calls ≡ raised_by self.old.calls 1 }
         ensures later { self.old.faults ≤ self.new.faults }
         ensures cause { result ≡ Taken.Failed → Rose self.old.faults self.new.faults }
+        ensures quiet { IsQuietTaken result self.old.faults self.new.faults }
 
         // Which answer comes, and what it changes.
         ensures answer { result ≡ source_answer self.old (length buf.old) }
@@ -141,7 +139,7 @@ impl Model for MemorySink {
     ghost Value = { SinkState };
 
     ghost view = { λ s. record {
-      held = s.bytes.items;
+      content = s.bytes.items;
       piece = s.piece;
       room = s.room;
       fail_at = s.fail_at.items;
@@ -164,7 +162,7 @@ impl MemorySink {
     ) -> Result<MemorySink, NoMemory>
         requires { 0 < piece }
         ensures { IfOk result (λ sink. sink ≡ record {
-          held = [];
+          content = [];
           piece = piece;
           room = room;
           fail_at = fail_at.items;
@@ -185,22 +183,21 @@ impl MemorySink {
 
     /// The bytes that were taken so far.
     pub fn content(&self) -> &[u8]
-        ensures { result.now ≡ self.now.held }
+        ensures { result.now ≡ self.now.content }
     {
         self.bytes.as_slice()
     }
 }
 
 impl Sink for MemorySink {
-    ghost held = { λ s. Some s.held };
-
-    ghost faults = { λ s. s.faults };
+    ghost account = { λ s. record { content = Some s.content; faults = s.faults } };
 
     fn put(&mut self, bytes: &[u8]) -> Placed
         ensures room { PlacesWithin result (length bytes.now) }
-        ensures bytes { Some self.new.held ≡ after_held (Some self.old.held) (bytes_placed result bytes.now) }
+        ensures bytes { Some self.new.content ≡ content_after (Some self.old.content) (bytes_placed result bytes.now) }
         ensures later { self.old.faults ≤ self.new.faults }
         ensures cause { result ≡ Placed.Failed → Rose self.old.faults self.new.faults }
+        ensures quiet { IsQuietPlaced result self.old.faults self.new.faults }
 
         // Which answer comes, and what it changes.
         ensures answer { result ≡ sink_answer self.old (length bytes.now) }

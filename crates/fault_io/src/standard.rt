@@ -1,155 +1,145 @@
 ghost use Rattle.std.specs.Prelude.{◌≡◌, ℕ, ◌≤◌, min, List, [], length, take, Option, IfSome, IfNone};
-ghost use Rattle.std.specs.Io.KnownBytes.{Appends, Consumes, IsAtEnd};
+ghost use Rattle.std.specs.Io.KnownBytes.{Consumes, IsAtEnd};
 ghost use Rattle.fault_io.specs.Counts.{last_count, raised_by, Rose};
-ghost use Rattle.fault_io.specs.Given.{TakesWithin, bytes_taken, IsEnd, before_left, not_told};
-ghost use Rattle.fault_io.specs.Held.{PlacesWithin, bytes_placed, after_held};
-ghost use Rattle.fault_io.specs.Real.{faults_after_next, faults_after_put, AppendsFront, Writes};
+ghost use Rattle.fault_io.specs.Given.{TakesWithin, bytes_taken, IsEnd, IsQuietTaken, before_left, not_told};
+ghost use Rattle.fault_io.specs.Real.{failures_after_next, failures_after_put, Writes};
+ghost use Rattle.fault_io.specs.Written.{PlacesWithin, bytes_placed, IsQuietPlaced, content_after};
 
+use crate::adapters::{In, Out};
 use crate::reading::{Source, Taken};
 use crate::writing::{Placed, Sink};
-use std::io::{Read, Write};
 use std::marker::Model;
 
-/// A real reader as a source. It tells no content, and counts each read that fails. Once that count is at its last
-/// value it reads no more, and each call fails.
+/// A count after `n` more, which stops at 2^64 - 1.
+fn raised_by(count: u64, n: usize) -> u64
+    ensures { result ≡ raised_by count n }
+{
+    count.saturating_add(n as u64)
+}
+
+/// A real reader as a source, whose faults are the reader's failures. It tells no content. Once the count of failures
+/// is at its last value it reads no more, and each call fails.
 #[derive(Drop)]
 pub struct StdSource<R> {
     reader: R,
-    faults: u64,
     given: u64,
+    calls: u64,
 }
 
 impl<R> Model for StdSource<R> {
-    ghost use Rattle.fault_io.specs.Real.{ReaderState, reader_code};
+    ghost use Rattle.fault_io.specs.Real.{RealSource, source_code};
 
-    ghost Value = { ReaderState R };
+    ghost Value = { RealSource R };
 
-    ghost coded = { reader_code R.code };
+    ghost coded = { source_code R.code };
 
-    ghost view = { λ s. record { reader = s.reader; faults = s.faults; given = s.given } };
+    ghost view = { λ s. record { reader = s.reader; given = s.given; calls = s.calls } };
 }
 
-impl<R: Read> StdSource<R> {
+impl<R: In> StdSource<R> {
     /// A source of what this reader has left.
     pub fn new(reader: R) -> StdSource<R>
-        ensures { result ≡ record { reader = reader; faults = 0; given = 0 } }
+        ensures { result ≡ record { reader = reader; given = 0; calls = 0 } }
     {
         StdSource {
             reader,
-            faults: 0,
             given: 0,
+            calls: 0,
         }
     }
 }
 
-impl<R: Read> Source for StdSource<R> {
-    ghost left = { λ _. not_told };
-
-    ghost faults = { λ s. s.faults };
-
-    ghost given = { λ s. s.given };
+impl<R: In> Source for StdSource<R> {
+    ghost account = { λ s. record {
+      left = not_told;
+      given = s.given;
+      calls = s.calls;
+      faults = (R.account s.reader).failures;
+    } };
 
     fn next(&mut self, buf: &mut [u8]) -> Taken
         ensures room { TakesWithin result (length buf.old) }
         ensures bytes { not_told ≡ before_left (bytes_taken result buf.new) not_told }
         ensures end { IsEnd result (length buf.old) → IfSome not_told (λ bytes. bytes ≡ []) }
-        ensures count { self.new.given ≡ raised_by self.old.given (length (bytes_taken result buf.new)) }
-        ensures later { self.old.faults ≤ self.new.faults }
-        ensures cause { result ≡ Taken.Failed → Rose self.old.faults self.new.faults }
+        ensures given { self.new.given ≡ raised_by self.old.given (length (bytes_taken result buf.new)) }
+        ensures called { self.new.calls ≡ raised_by self.old.calls 1 }
+        ensures later { (R.account self.old.reader).failures ≤ (R.account self.new.reader).failures }
+        ensures cause { result ≡ Taken.Failed →
+            Rose (R.account self.old.reader).failures (R.account self.new.reader).failures }
+        ensures quiet { IsQuietTaken result (R.account self.old.reader).failures (R.account self.new.reader).failures }
 
-        // What comes of the reader, where its bytes are known, and when the count of faults rises.
-        ensures read { Consumes (R.remaining self.old.reader) (R.remaining self.new.reader) (bytes_taken result buf.new) }
-        ensures read_end { IsEnd result (length buf.old) → IsAtEnd (R.remaining self.new.reader) }
-        ensures faults { self.new.faults ≡ faults_after_next self.old.faults result }
-        ensures spent { self.old.faults ≡ last_count → result ≡ Taken.Failed }
-        ensures untouched { self.old.faults ≡ last_count → self.new ≡ self.old }
+        // What comes of the reader, where its bytes are known.
+        ensures read { Consumes (R.account self.old.reader).remaining (R.account self.new.reader).remaining
+            (bytes_taken result buf.new) }
+        ensures read_end { IsEnd result (length buf.old) → IsAtEnd (R.account self.new.reader).remaining }
+
+        // The call fails exactly where one read of the reader failed, or the count of failures is at its last value.
+        ensures failed { (R.account self.new.reader).failures
+            ≡ failures_after_next (R.account self.old.reader).failures result }
+        ensures spent { (R.account self.old.reader).failures ≡ last_count → result ≡ Taken.Failed }
+        ensures untouched { (R.account self.old.reader).failures ≡ last_count → self.new.reader ≡ self.old.reader }
     {
-        if self.faults == u64::MAX {
+        self.calls = raised_by(self.calls, 1);
+        if self.reader.failures() == u64::MAX {
             return Taken::Failed;
         }
         match self.reader.read(buf) {
-            Ok(0) if !buf.is_empty() => Taken::End,
-            Ok(count) => {
-                self.given = self.given.saturating_add(count as u64);
+            Some(0) if !buf.is_empty() => Taken::End,
+            Some(count) => {
+                self.given = raised_by(self.given, count);
                 Taken::Got(count)
             }
-            Err(_) => {
-                self.faults += 1;
-                Taken::Failed
-            }
+            None => Taken::Failed,
         }
     }
 }
 
-/// A real writer as a sink, which is flushed after each piece. It tells no content, and counts each piece of which
-/// nothing could be written, or after which the flush failed. Once that count is at its last value it writes no more,
-/// and each call fails.
+/// A real writer as a sink, which is flushed after each piece, and whose faults are the writer's failures. It tells no
+/// content. Once the count of failures is at its last value it writes no more, and each call fails.
 #[derive(Drop)]
 pub struct StdSink<W> {
     writer: W,
-    faults: u64,
 }
 
-impl<W> Model for StdSink<W> {
-    ghost use Rattle.fault_io.specs.Real.{WriterState, writer_code};
-
-    ghost Value = { WriterState W };
-
-    ghost coded = { writer_code W.code };
-
-    ghost view = { λ s. record { writer = s.writer; faults = s.faults } };
-}
-
-/// Writes a piece and flushes. `None` says that the write or the flush failed, or that nothing was written of a piece
-/// that is not empty.
-fn write_flushed<W: Write>(writer: &mut W, piece: &[u8]) -> Option<usize>
-    ensures within { IfSome result (λ n. (n ≤ length piece.now) × (min 1 (length piece.now) ≤ n)) }
-    ensures written { IfSome result (λ n. Appends (W.contents writer.old) (W.contents writer.new) (take n piece.now)) }
-    ensures part { IfNone result (AppendsFront (W.contents writer.old) (W.contents writer.new) piece.now) }
-{
-    let count = writer.write(piece).ok()?;
-    writer.flush().ok()?;
-    if count == 0 && !piece.is_empty() {
-        return None;
-    }
-    Some(count)
-}
-
-impl<W: Write> StdSink<W> {
+impl<W: Out> StdSink<W> {
     /// A sink that writes to this writer.
     pub fn new(writer: W) -> StdSink<W>
-        ensures { result ≡ record { writer = writer; faults = 0 } }
+        ensures { result ≡ record { writer = writer } }
     {
-        StdSink { writer, faults: 0 }
+        StdSink { writer }
     }
 }
 
-impl<W: Write> Sink for StdSink<W> {
-    ghost held = { λ _. not_told };
-
-    ghost faults = { λ s. s.faults };
+impl<W: Out> Sink for StdSink<W> {
+    ghost account = { λ s. record { content = not_told; faults = (W.account s.writer).failures } };
 
     fn put(&mut self, bytes: &[u8]) -> Placed
         ensures room { PlacesWithin result (length bytes.now) }
-        ensures bytes { not_told ≡ after_held not_told (bytes_placed result bytes.now) }
-        ensures later { self.old.faults ≤ self.new.faults }
-        ensures cause { result ≡ Placed.Failed → Rose self.old.faults self.new.faults }
+        ensures bytes { not_told ≡ content_after not_told (bytes_placed result bytes.now) }
+        ensures later { (W.account self.old.writer).failures ≤ (W.account self.new.writer).failures }
+        ensures cause { result ≡ Placed.Failed →
+            Rose (W.account self.old.writer).failures (W.account self.new.writer).failures }
+        ensures quiet { IsQuietPlaced result (W.account self.old.writer).failures (W.account self.new.writer).failures }
 
-        // What goes to the writer, where its bytes are known, and when the count of faults rises.
-        ensures written { Writes result (W.contents self.old.writer) (W.contents self.new.writer) bytes.now }
-        ensures faults { self.new.faults ≡ faults_after_put self.old.faults result }
-        ensures spent { self.old.faults ≡ last_count → result ≡ Placed.Failed }
-        ensures untouched { self.old.faults ≡ last_count → self.new ≡ self.old }
+        // What goes to the writer: after a piece of which some was taken, all that was written is flushed.
+        ensures written { Writes result (W.account self.old.writer) (W.account self.new.writer) bytes.now }
+
+        // The call fails exactly where one call of the writer failed, or the count of failures is at its last value.
+        ensures failed { (W.account self.new.writer).failures
+            ≡ failures_after_put (W.account self.old.writer).failures result }
+        ensures spent { (W.account self.old.writer).failures ≡ last_count → result ≡ Placed.Failed }
+        ensures untouched { (W.account self.old.writer).failures ≡ last_count → self.new ≡ self.old }
     {
-        if self.faults == u64::MAX {
+        if self.writer.failures() == u64::MAX {
             return Placed::Failed;
         }
-        match write_flushed(&mut self.writer, bytes) {
-            Some(count) => Placed::Took(count),
-            None => {
-                self.faults += 1;
-                Placed::Failed
-            }
+        let Some(count) = self.writer.write(bytes) else {
+            return Placed::Failed;
+        };
+        if self.writer.flush() {
+            Placed::Took(count)
+        } else {
+            Placed::Failed
         }
     }
 }

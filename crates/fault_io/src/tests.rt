@@ -58,7 +58,8 @@ fn bytes_are_written_whole_or_up_to_a_fault(rt: HostRuntime) -> Result<(), Fail>
 #[test]
 fn a_reader_of_std_is_read_to_its_end(rt: HostRuntime) -> Result<(), Fail> {
     let text: &[u8] = b"one line\n";
-    let bytes = read_all(rt.alloc(), &mut StdSource::new(text), 9)?;
+    let mut source = StdSource::new(CountedReader::new(text));
+    let bytes = read_all(rt.alloc(), &mut source, 9)?;
     assert_eq!(rt; bytes.as_slice(), text);
     Ok(())
 }
@@ -66,54 +67,117 @@ fn a_reader_of_std_is_read_to_its_end(rt: HostRuntime) -> Result<(), Fail> {
 #[test]
 fn a_writer_of_std_gets_all_bytes(rt: HostRuntime) -> Result<(), Fail> {
     let mut out = Vec::new(rt.alloc());
-    assert_eq!(rt;
-        write_all(&mut StdSink::new(&mut out), b"one line\n"),
-        Ok(())
-    );
+    let mut sink = StdSink::new(CountedWriter::new(&mut out));
+    assert_eq!(rt; write_all(&mut sink, b"one line\n"), Ok(()));
     assert_eq!(rt; out.as_slice(), b"one line\n".as_slice());
+    let mut room = [0; 2];
+    let full: &mut [u8] = &mut room;
+    let mut sink = StdSink::new(CountedWriter::new(full));
+    assert_eq!(rt; write_all(&mut sink, b"abc"), Err(WriteFault));
     Ok(())
 }
 
-/// A reader of single bytes, and a writer of single bytes, whose second read and second flush fail.
+/// A reader of the byte 7, in pieces of one, of which one read fails.
 #[derive(Drop)]
-struct FailsOnce {
-    calls: u8,
+struct FaultyReader {
+    reads: u8,
+    fails: u8,
 }
 
-impl Read for FailsOnce {
+impl Read for FaultyReader {
     fn read(&mut self, buf: &mut [u8]) -> io::Result<usize> {
-        self.calls = self.calls.saturating_add(1);
-        if self.calls == 2 {
+        self.reads = self.reads.saturating_add(1);
+        if self.reads == self.fails {
             return Err(ErrorKind::Other.into());
         }
-        Ok(buf.len().min(1))
+        match buf {
+            [] => Ok(0),
+            [first, ..] => {
+                *first = 7;
+                Ok(1)
+            }
+        }
     }
 }
 
-impl Write for FailsOnce {
+#[test]
+fn a_read_that_fails_once_is_a_fault(rt: HostRuntime) -> Result<(), Fail> {
+    let reader = FaultyReader { reads: 0, fails: 2 };
+    let mut source = StdSource::new(CountedReader::new(reader));
+    let mut buf = [0; 2];
+    assert_eq!(rt; source.next(&mut buf), Taken::Got(1));
+    assert_eq!(rt; source.next(&mut buf), Taken::Failed);
+    assert_eq!(rt; source.next(&mut buf), Taken::Got(1));
+    let mut again = StdSource::new(CountedReader::new(FaultyReader { reads: 0, fails: 2 }));
+    let faulty = read_all(rt.alloc(), &mut again, 9);
+    assert_eq!(rt; faulty.err(), Some(ReadError::ReadFault));
+    Ok(())
+}
+
+/// A writer in pieces of two that holds what it was given, and of which one write or one flush fails. It knows how many
+/// of its bytes came after the last flush.
+#[derive(Drop)]
+struct FaultyWriter {
+    bytes: Vec<u8>,
+    unflushed: usize,
+    calls: u8,
+    fails: u8,
+}
+
+impl FaultyWriter {
+    /// A writer whose call of this number fails, from 1: writes have the odd numbers, and flushes the even ones.
+    fn new(alloc: Global, fails: u8) -> FaultyWriter {
+        FaultyWriter {
+            bytes: Vec::new(alloc),
+            unflushed: 0,
+            calls: 0,
+            fails,
+        }
+    }
+
+    /// Whether this call is the one that fails.
+    fn fails_now(&mut self) -> bool {
+        self.calls = self.calls.saturating_add(1);
+        self.calls == self.fails
+    }
+}
+
+impl Write for FaultyWriter {
     fn write(&mut self, buf: &[u8]) -> io::Result<usize> {
-        Ok(buf.len().min(1))
+        let count = buf.len().min(2);
+        if self.fails_now() || self.bytes.extend_from_slice(&buf[..count]).is_err() {
+            return Err(ErrorKind::Other.into());
+        }
+        self.unflushed = self.unflushed.saturating_add(count);
+        Ok(count)
     }
 
     fn flush(&mut self) -> io::Result<()> {
-        self.calls = self.calls.saturating_add(1);
-        if self.calls == 2 {
+        if self.fails_now() {
             return Err(ErrorKind::Other.into());
         }
+        self.unflushed = 0;
         Ok(())
     }
 }
 
 #[test]
-fn a_failed_read_flush_or_empty_write_is_a_fault(rt: HostRuntime) -> Result<(), Fail> {
-    let mut source = StdSource::new(FailsOnce { calls: 0 });
-    let faulty = read_all(rt.alloc(), &mut source, 9);
-    assert_eq!(rt; faulty.err(), Some(ReadError::ReadFault));
-    let mut sink = StdSink::new(FailsOnce { calls: 0 });
-    assert_eq!(rt; sink.put(b"abc"), Placed::Took(1));
-    assert_eq!(rt; sink.put(b"bc"), Placed::Failed);
-    let mut room = [0; 2];
-    let full: &mut [u8] = &mut room;
-    assert_eq!(rt; write_all(&mut StdSink::new(full), b"abc"), Err(WriteFault));
+fn a_write_or_a_flush_that_fails_once_is_a_fault(rt: HostRuntime) -> Result<(), Fail> {
+    let mut sink = StdSink::new(CountedWriter::new(FaultyWriter::new(rt.alloc(), 3)));
+    assert_eq!(rt; sink.put(b"abcd"), Placed::Took(2));
+    assert_eq!(rt; sink.put(b"cd"), Placed::Failed);
+    let mut sink = StdSink::new(CountedWriter::new(FaultyWriter::new(rt.alloc(), 2)));
+    assert_eq!(rt; sink.put(b"abcd"), Placed::Failed);
+    assert_eq!(rt; sink.put(b"cd"), Placed::Took(2));
+    Ok(())
+}
+
+#[test]
+fn no_byte_comes_after_the_last_flush(rt: HostRuntime) -> Result<(), Fail> {
+    let mut writer = FaultyWriter::new(rt.alloc(), 0);
+    let mut sink = StdSink::new(CountedWriter::new(&mut writer));
+    assert_eq!(rt; write_all(&mut sink, b"abcde"), Ok(()));
+    assert_eq!(rt; writer.bytes.as_slice(), b"abcde".as_slice());
+    assert_eq!(rt; writer.unflushed, 0);
     Ok(())
 }

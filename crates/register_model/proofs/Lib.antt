@@ -1,1 +1,4 @@
 pub mod RunLemmas
+pub mod NameLemmas
+pub mod KeptLemmas
+pub mod RefusedLemmas

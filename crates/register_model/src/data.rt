@@ -13,7 +13,7 @@ pub struct Key {
 }
 
 /// The name of a client's request.
-#[derive(Clone, Copy, Debug, PartialEq, Eq)]
+#[derive(Clone, Copy, Debug, PartialEq, Eq, PartialOrd, Ord)]
 pub struct Request {
     /// The lane that the client asked.
     pub lane: LaneId,

@@ -3,5 +3,12 @@
 #![tactic(auto)]
 
 pub mod data;
+mod known;
+mod run;
+mod seen;
 
 pub use data::{ClientEvent, ClientEventList, Key, Request};
+pub use run::check;
+
+#[cfg(test)]
+mod tests;

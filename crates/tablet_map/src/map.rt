@@ -1,7 +1,7 @@
-ghost use Rattle.std.specs.Prelude.{◌≡◌, ◌^◌, ◌≤◌, ◌<◌, length, IfOk, OnOk, OnErr, None, IsSome, option_copied, option_map, position, IsTrue, not};
+ghost use Rattle.std.specs.Prelude.{◌≡◌, ◌^◌, ◌≤◌, ◌<◌, length, IfOk, OnOk, OnErr, None, IsSome, option_copied, option_map, position, IsTrue, is_some, not};
 ghost use Rattle.tablet_map.specs.Replicas.{IsReplicaSet, CanMove};
 ghost use Rattle.tablet_map.specs.Tablets.{tablet_in, is_moving, has_session, IsMap};
-ghost use Rattle.tablet_map.specs.Calls.{new_tablets, with_tablet, at_rest, started, staged, finished, reverted, SplitEnds, MergeEnds};
+ghost use Rattle.tablet_map.specs.Calls.{new_tablets, with_tablet, at_rest, started, staged, finished, reverted, least_moving, least_apart, SplitEnds, MergeEnds};
 
 use crate::errors::{MergeError, SplitError};
 use crate::lists::{
@@ -56,6 +56,27 @@ impl TabletMap {
         ensures { option_copied result ≡ (tablet_in self.now.list tablet.0).transition }
     {
         self.tablets[tablet.0 as usize].transition.as_ref()
+    }
+
+    /// Lends the tablets.
+    pub fn tablets(&self) -> &[Tablet]
+        ensures { result.now ≡ self.now.list }
+    {
+        self.tablets.as_slice()
+    }
+
+    /// Whether a tablet is in transition.
+    pub fn is_moving(&self) -> bool
+        ensures { result ≡ is_some (least_moving self.now.list) }
+    {
+        place_of_moving(self.tablets.as_slice()).is_some()
+    }
+
+    /// Whether two tablets that a merge would make one have not the same set of replicas.
+    pub fn is_apart(&self) -> bool
+        ensures { result ≡ is_some (least_apart self.now.list) }
+    {
+        place_of_apart(self.tablets.as_slice()).is_some()
     }
 
     /// The least tablet whose transition has this session.

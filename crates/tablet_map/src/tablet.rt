@@ -51,14 +51,14 @@ impl Tablet {
     }
 
     /// Whether a replica of it moves.
-    pub(crate) fn is_moving(&self) -> bool
+    pub fn is_moving(&self) -> bool
         ensures { result ≡ is_moving self.now }
     {
         self.transition.is_some()
     }
 
     /// Whether a replica of it moves under this session.
-    pub(crate) fn has_session(&self, session: Session) -> bool
+    pub fn has_session(&self, session: Session) -> bool
         ensures { result ≡ has_session session self.now }
     {
         match &self.transition {

@@ -12,6 +12,7 @@ use Rattle.stage_graph.specs.declared.stage.Stage.{Stage}
 use Rattle.stage_graph.specs.Table.{next_ok}
 use Rattle.token_ring.specs.declared.ring.TabletId.{TabletId}
 use Rattle.tablet_map.specs.declared.tablet.Tablet.{Tablet}
+use Rattle.tablet_map.specs.declared.tablet.Transition.{Transition}
 use Rattle.tablet_map.specs.Tablets.{tablet_in, is_moving, has_session}
 use Rattle.tablet_map.specs.Calls.{least_moving, least_apart}
 use Rattle.topo_state.specs.declared.data.Resize.{Resize as Decision}
@@ -69,9 +70,12 @@ join_tests state host =
     (not (nat_lt host.0 state.hosts), UnknownHost) ∷ (is_member state.members host, AlreadyMember) ∷ []
 
 -- a tablet has a replica or a pending replica on the host
+abbrev pub pending_on : HostId → Option Transition → Bool
+pending_on host None = false
+pending_on host (Some t) = is_on host t.pending
+
 abbrev pub uses_host : HostId → Tablet → Bool
-uses_host host tablet =
-    has_host tablet.replicas host || elim tablet.transition [ None ↦ false | Some t ↦ is_on host t.pending ]
+uses_host host tablet = has_host tablet.replicas host || pending_on host tablet.transition
 
 abbrev pub leave_tests : Topology → HostId → List (Bool × Rule)
 leave_tests state host =

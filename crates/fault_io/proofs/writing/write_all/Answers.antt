@@ -1,12 +1,12 @@
 use Rattle.std.proofs.Common.{rules}
 use Rattle.std.proofs.lemmas.List.{take_rest}
-use Rattle.fault_io.proofs.Pieces.{after_held-take}
+use Rattle.fault_io.proofs.Pieces.{content_after-take}
 use Rattle.fault_io.proofs.writing.write_all.Goals as goal
 
 pub writing-preserved : goal.writing-preserved
 writing-preserved g c = record {
   within = search rules;
-  written = after_held-take
+  written = content_after-take
       _
       _
       _
@@ -17,5 +17,5 @@ writing-preserved g c = record {
       c.writing.invariant.written
       c.in-Took.ensures.bytes
       (take_rest c.args.bytes.now c.writing.at);
-  later = search rules;
+  quiet = search rules;
 }

@@ -1,0 +1,60 @@
+-- Where a host lays the cells of a table into runs, one for each tablet: when it applies the command that makes the table or
+-- resizes it, and when it tells that it is ready for a split.
+use Rattle.std.specs.Prelude.{ℕ, ◌+◌, ◌^◌, Bool, true, false, nat_lt, Option, Some, None, option_map, find, if◌then◌else◌}
+use Rattle.base_ids.specs.Names.{same_table}
+use Rattle.base_ids.specs.declared.ids.TableId.{TableId}
+use Rattle.barrier_core.specs.declared.data.What.{What}
+use Rattle.barrier_core.specs.declared.data.What.TheVariants.{Ready}
+use Rattle.topo_state.specs.State.{Topology}
+use Rattle.topo_state.specs.Tables.{table_in}
+use Rattle.topo_state.specs.After.{after}
+use Rattle.topo_state.specs.Moves.{is_split_by}
+use Rattle.topo_state.specs.declared.command.Command.{Command}
+use Rattle.topo_state.specs.declared.command.Command.TheVariants.{CreateTable, FinalizeResize}
+use Rattle.topo_state.specs.declared.data.Table.{Table}
+use Rattle.host_core.specs.Host.{HostView}
+use Rattle.host_core.specs.declared.data.HostInput.{HostInput}
+use Rattle.host_core.specs.declared.data.HostInput.TheVariants.{Apply, Answer as AnswerAsk}
+use Rattle.host_core.specs.declared.grouping.Grouping.{Grouping}
+
+-- the table that a command makes or resizes
+abbrev pub grouped_table : Command → Option TableId
+grouped_table (CreateTable id log2 replicas) = Some id
+grouped_table (FinalizeResize id seq) = Some id
+grouped_table command = None
+
+-- a table as it is divided
+abbrev pub grouping_as : Option Table → Option Grouping
+grouping_as None = None
+grouping_as (Some table) = Some (record { table = table.id; log2 = table.map.log2 })
+
+abbrev pub grouping_for : Topology → Option TableId → Option Grouping
+grouping_for state None = None
+grouping_for state (Some id) = grouping_as (table_in state.tables id)
+
+-- a table as it will be divided once it is split
+abbrev pub grouping_split : Option Table → Option Grouping
+grouping_split None = None
+grouping_split (Some table) =
+    if nat_lt table.map.log2 10 then Some (record { table = table.id; log2 = table.map.log2 + 1 }) else None
+
+abbrev pub grouping_told : Topology → What → Option Grouping
+grouping_told state (Ready number) = grouping_split (find (is_split_by number) state.tables)
+grouping_told state what = None
+
+-- the table that is regrouped at an input, and the logarithm of its count of runs afterwards
+abbrev pub grouping_of : HostView → HostInput → Option Grouping
+grouping_of view (Apply command) = grouping_for (after view.state command (view.applied + 1)) (grouped_table command)
+grouping_of view (AnswerAsk ask) = grouping_told view.state ask.what
+grouping_of view input = None
+
+-- the run counts after it, where they are told
+abbrev pub runs_with : Option Grouping → (TableId → Option ℕ) → TableId → Option ℕ
+runs_with None runs table = runs table
+runs_with (Some grouping) runs table =
+    if same_table table grouping.table then option_map (λ _. 2 ^ grouping.log2) (runs table) else runs table
+
+-- the table is regrouped
+abbrev pub is_grouped : Option Grouping → TableId → Bool
+is_grouped None table = false
+is_grouped (Some grouping) table = same_table table grouping.table
