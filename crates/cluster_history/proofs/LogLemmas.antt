@@ -11,7 +11,7 @@ use Rattle.cluster_history.specs.Topology.{with_command}
 
 -- ---- a command raises the version by one or leaves it
 
-after_rises : (state : Topology) (command : Command) (index : ℕ) → state.version.0 ≤ (after state command index).version.0
+pub after_rises : (state : Topology) (command : Command) (index : ℕ) → state.version.0 ≤ (after state command index).version.0
 after_rises state command index = by_fence (fence_set command) refl
   where
     by_fence : (set : Option Version) → fence_set command ≡ set → state.version.0 ≤ (after state command index).version.0
