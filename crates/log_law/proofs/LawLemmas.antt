@@ -14,6 +14,7 @@ use Rattle.log_law.specs.Stages.{view_with}
 use Rattle.log_law.specs.Steps.{ViewStep}
 use Rattle.log_law.proofs.DecisionLemmas.{decided_at}
 use Rattle.log_law.proofs.EnterLemmas.{entered}
+use Rattle.log_law.proofs.MoveLemmas.{move_is, no_move_no_place}
 use Rattle.log_law.proofs.NextLemmas.{first_view, next_view}
 use Rattle.log_law.proofs.OpeningLemmas.{opening_fenced, opening_still, opening_undecided}
 use Rattle.log_law.proofs.PairLemmas.{pair_of_itself, pair_of_step}
@@ -71,6 +72,8 @@ places_law first opening log legal =
     record {
       found = λ count within session place h. found_is first (opening_still first opening) log legal count within (topology_at first opening.sound log legal count).distinct session place h;
       absent = λ count session none id token. absent_is session (state_at first log count) none id token.value;
+      moves = λ count within session move h. move_is first (opening_still first opening) opening.sound log legal count within session move h;
+      none_moves = λ count session none id token. absent_is session (state_at first log count) (no_move_no_place (state_at first log count).tables session none) id token.value;
     }
 
 pub decisions_law : OfEachLog HasDecisions

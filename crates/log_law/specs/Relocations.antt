@@ -7,11 +7,14 @@ use Rattle.base_ids.specs.declared.ids.Session.{Session}
 use Rattle.base_ids.specs.declared.ids.TableId.{TableId}
 use Rattle.stage_graph.specs.declared.stage.Stage.{Stage}
 use Rattle.token_ring.specs.Ring.{tablet_at}
+use Rattle.token_ring.specs.Range.{IsIn}
 use Rattle.token_ring.specs.declared.ring.TabletId.{TabletId}
+use Rattle.token_ring.specs.declared.token.Token.{Token}
 use Rattle.tablet_map.specs.declared.tablet.Tablet.{Tablet}
 use Rattle.tablet_map.specs.declared.tablet.Transition.{Transition}
 use Rattle.topo_state.specs.declared.data.Table.{Table}
 use Rattle.topo_state.specs.declared.data.Resize.{Resize as Decision}
+use Rattle.topo_state.specs.declared.moves.Move.{Move}
 use Rattle.topo_state.specs.declared.command.Command.{Command}
 use Rattle.topo_state.specs.declared.command.Command.TheVariants.{Start, Resize}
 use Rattle.topo_state.specs.State.{Topology}
@@ -97,6 +100,15 @@ pub record IsPlaceOf (session : Session) (state : Topology) (found : SessionPlac
   pub outside : (id : TableId) (token : ℤ) (stage : Stage) →
       shown_stage session.0 (view state id token) ≡ Some stage →
       (id ≡ found.table) × (tablet_at table.map.log2 token ≡ found.tablet)
+
+-- A move that a state has of a session: the keys that show the session are those of its table whose token is in its
+-- range, and all of them show its transition.
+pub record IsMoveOf (session : Session) (state : Topology) (move : Move) : Type 0 where
+  pub same : move.transition.session ≡ session
+  pub inside : (token : Token) → IsIn move.range token →
+      (tablet : Tablet) × (view state move.table token.value ≡ Some tablet) × (tablet.transition ≡ Some move.transition)
+  pub outside : (id : TableId) (token : Token) (stage : Stage) →
+      shown_stage session.0 (view state id token.value) ≡ Some stage → (id ≡ move.table) × IsIn move.range token
 
 -- each decision of a state is that of the command of its number
 abbrev pub AreDecided : Topology → List Command → Type 0
