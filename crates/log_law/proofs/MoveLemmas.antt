@@ -1,5 +1,5 @@
 -- The move that a state has of a session is that of its keys.
-use Rattle.std.proofs.Common.{◌≡◌, ◌^◌, ◌<◌, ◌≤◌, ℕ, ℤ, List, [], ◌∷◌, length, cond, eqb, true, false, ◌&&◌, ◌||◌, not, Option, Some, None, refl, ap, sym, subst, ◌∙◌, arith}
+use Rattle.std.proofs.Common.{◌≡◌, ◌^◌, ◌<◌, ◌≤◌, ℕ, List, [], ◌∷◌, length, cond, eqb, true, false, not, Option, Some, None, refl, ap, sym, subst, ◌∙◌}
 use Rattle.std.specs.Prelude.{option_map}
 use Rattle.std.specs.List.{list_any, position}
 use Rattle.std.specs.Option.{option_or}
@@ -9,7 +9,6 @@ use Rattle.base_ids.specs.declared.ids.Replica.{Replica}
 use Rattle.base_ids.specs.declared.ids.Session.{Session}
 use Rattle.base_ids.specs.declared.ids.TableId.{TableId}
 use Rattle.token_ring.specs.declared.ring.TokenRange.{TokenRange}
-use Rattle.token_ring.specs.declared.token.Token.{Token}
 use Rattle.token_ring.specs.Range.{IsIn, range_at}
 use Rattle.token_ring.specs.Ring.{tablet_at}
 use Rattle.tablet_map.specs.declared.tablet.Tablet.{Tablet}
