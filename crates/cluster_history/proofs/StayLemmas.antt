@@ -41,16 +41,16 @@ use Rattle.cluster_history.specs.declared.data.Operation.{Operation}
 -- ---- the log that a host has applied, and that a coordinator has seen
 
 pub applied_state-other :
-  (opening : Opening) (history : History) (entry : Entry) (host : HostId) →
-  applied_count history host ≤ length (log_of history) → is_by (ByHost host) entry.event ≡ false →
-  applied_state opening (entry ∷ history) host ≡ applied_state opening history host
+    (opening : Opening) (history : History) (entry : Entry) (host : HostId) →
+    applied_count history host ≤ length (log_of history) → is_by (ByHost host) entry.event ≡ false →
+    applied_state opening (entry ∷ history) host ≡ applied_state opening history host
 applied_state-other opening history entry host within other =
     ap (state_at (opening_state opening) (log_of (entry ∷ history))) (applied_count-other history entry host other)
     ∙ state_at-stays (opening_state opening) (accepted_command entry.event entry.outputs) (log_of history) (applied_count history host) within
 
 pub seen_state-other :
-  (opening : Opening) (history : History) (entry : Entry) (topo : HostId) → is_by (ByTopo topo) entry.event ≡ false →
-  seen_state opening (entry ∷ history) topo ≡ seen_state opening history topo
+    (opening : Opening) (history : History) (entry : Entry) (topo : HostId) → is_by (ByTopo topo) entry.event ≡ false →
+    seen_state opening (entry ∷ history) topo ≡ seen_state opening history topo
 seen_state-other opening history entry topo other =
     ap (state_at (opening_state opening) (log_of (entry ∷ history))) (look_of-other history entry topo other)
     ∙ state_at-stays (opening_state opening) (accepted_command entry.event entry.outputs) (log_of history) (look_of history topo) (look_within history topo)
@@ -71,8 +71,8 @@ counts_on history event host =
 
 -- a host's version does not fall
 pub version_of-rises :
-  (opening : Opening) (history : History) (entry : Entry) (host : HostId) → applied_count history host ≤ length (log_of history) →
-  (version_of opening history host).0 ≤ (version_of opening (entry ∷ history) host).0
+    (opening : Opening) (history : History) (entry : Entry) (host : HostId) → applied_count history host ≤ length (log_of history) →
+    (version_of opening history host).0 ≤ (version_of opening (entry ∷ history) host).0
 version_of-rises opening history entry host within =
     let log = log_of (entry ∷ history) in
     let same : state_at (opening_state opening) log (applied_count history host) ≡ applied_state opening history host =
@@ -135,9 +135,9 @@ may_begin version floor newest live begun =
 
 -- a floor that is at most a begin's version stays so, as long as no quiet event hinders the begin
 floor_stays :
-  (history : History) (event : Event) (lane : LaneId) (operation : Operation) (version : Version) →
-  hinders event (Begin lane operation version) ≡ false → (floor_of history lane.host).0 ≤ version.0 →
-  (greater_version (raised_floor lane.host event) (floor_of history lane.host)).0 ≤ version.0
+    (history : History) (event : Event) (lane : LaneId) (operation : Operation) (version : Version) →
+    hinders event (Begin lane operation version) ≡ false → (floor_of history lane.host).0 ≤ version.0 →
+    (greater_version (raised_floor lane.host event) (floor_of history lane.host)).0 ≤ version.0
 floor_stays history (Quiet host raised) lane operation version free below =
     (elim (same_host host lane.host) as (λ b. (b && nat_lt version.0 raised.0) ≡ false → (greater_version (if b then Some raised else None) (floor_of history lane.host)).0 ≤ version.0) [
       | true ↦ λ e.
@@ -151,9 +151,9 @@ floor_stays history event lane operation version free below = below
 
 -- a version between the first one and a host's has a state, which stays
 state_of_version-stays :
-  (opening : Opening) (history : History) (entry : Entry) (host : HostId) (version : Version) →
-  1 ≤ version.0 → version.0 ≤ (version_of opening history host).0 →
-  state_of_version opening (entry ∷ history) version ≡ state_of_version opening history version
+    (opening : Opening) (history : History) (entry : Entry) (host : HostId) (version : Version) →
+    1 ≤ version.0 → version.0 ≤ (version_of opening history host).0 →
+    state_of_version opening (entry ∷ history) version ≡ state_of_version opening history version
 state_of_version-stays opening history entry host version above below =
     let first = opening_state opening in
     let last = version_below_last first (log_of history) (applied_count history host) in
@@ -161,11 +161,11 @@ state_of_version-stays opening history entry host version above below =
     (has_version first (log_of history) version.0 above (omega (arith, below, last)))
 
 begin-stays :
-  (opening : Opening) (history : History) (entry : Entry) (lane : LaneId) (operation : Operation) (version : Version) →
-  applied_count history lane.host ≤ length (log_of history) →
-  is_by (ByLane lane) entry.event ≡ false → hinders entry.event (Begin lane operation version) ≡ false →
-  broken_rule opening history (Begin lane operation version) ≡ None →
-  StaysEnabled opening history entry (Begin lane operation version)
+    (opening : Opening) (history : History) (entry : Entry) (lane : LaneId) (operation : Operation) (version : Version) →
+    applied_count history lane.host ≤ length (log_of history) →
+    is_by (ByLane lane) entry.event ≡ false → hinders entry.event (Begin lane operation version) ≡ false →
+    broken_rule opening history (Begin lane operation version) ≡ None →
+    StaysEnabled opening history entry (Begin lane operation version)
 begin-stays opening history entry lane operation version within other free enabled =
     let host = lane.host in
     let well = begins_well version (floor_of history host) (version_of opening history host) (live_count history lane) enabled in
@@ -176,16 +176,16 @@ begin-stays opening history entry lane operation version within other free enabl
     let count : live_count (entry ∷ history) lane ≡ live_count history lane = ap length (live_ops-other history entry lane other) in
     record {
       enabled =
-        may_begin version (floor_of (entry ∷ history) host) (version_of opening (entry ∷ history) host) (live_count (entry ∷ history) lane)
-        (record {
-          above = floor_stays history entry.event lane operation version free above;
-          below = omega (arith, below, rises);
-          room = ap (nat_le most_live) count ∙ well.room;
-        });
+          may_begin version (floor_of (entry ∷ history) host) (version_of opening (entry ∷ history) host) (live_count (entry ∷ history) lane)
+          (record {
+            above = floor_stays history entry.event lane operation version free above;
+            below = omega (arith, below, rises);
+            room = ap (nat_le most_live) count ∙ well.room;
+          });
       outputs = λ proposal.
-        let state = state_of_version-stays opening history entry host version (omega (arith, first, above)) below in
-        let count = begun_count-other history entry lane other in
-        λ i. begin_outputs lane (record { 0 = count i + 1 }) version operation (way_in (state i) host operation);
+          let state = state_of_version-stays opening history entry host version (omega (arith, first, above)) below in
+          let count = begun_count-other history entry lane other in
+          λ i. begin_outputs lane (record { 0 = count i + 1 }) version operation (way_in (state i) host operation);
     }
 
 -- ---- quiet events
@@ -226,9 +226,9 @@ request_not_below operation version quiet (Goes route) e = e
 request_not_below operation version quiet (Ends reply) e = refl
 
 started_not_below :
-  (opening : Opening) (history : History) (event : Event) (lane : LaneId) (version : Version) →
-  is_begin_of lane event ≡ true → hinders event (Quiet lane.host version) ≡ false →
-  is_below version (started_request opening history event) ≡ false
+    (opening : Opening) (history : History) (event : Event) (lane : LaneId) (version : Version) →
+    is_begin_of lane event ≡ true → hinders event (Quiet lane.host version) ≡ false →
+    is_below version (started_request opening history event) ≡ false
 started_not_below opening history (Begin by operation begun) lane version is free =
     request_not_below operation begun version (way_of opening history by operation begun) (grind (arith, nat_tests))
 started_not_below opening history event lane version is free = refl
@@ -247,14 +247,14 @@ and_false true b e = e
 and_false false b e = refl
 
 lagging-begun :
-  (opening : Opening) (history : History) (entry : Entry) (version : Version) (lane : LaneId) (op : OpId) →
-  hinders entry.event (Quiet lane.host version) ≡ false → begins history entry.event lane op ≡ true →
-  lagging opening (entry ∷ history) version lane op ≡ false
+    (opening : Opening) (history : History) (entry : Entry) (version : Version) (lane : LaneId) (op : OpId) →
+    hinders entry.event (Quiet lane.host version) ≡ false → begins history entry.event lane op ≡ true →
+    lagging opening (entry ∷ history) version lane op ≡ false
 lagging-begun opening history entry version lane op free begun =
     let is_begin : is_begin_of lane entry.event ≡ true = and_left (is_begin_of lane entry.event) _ begun in
     let low : is_below version (request_at opening (entry ∷ history) lane op) ≡ false =
     ap (λ b. is_below version (if b then started_request opening history entry.event else request_at opening history lane op)) begun
-        ∙ started_not_below opening history entry.event lane version is_begin free in
+    ∙ started_not_below opening history entry.event lane version is_begin free in
     and_false (is_live (entry ∷ history) lane op) _ low
   where
     and_left : (a b : Bool) → (a && b) ≡ true → a ≡ true
@@ -262,9 +262,9 @@ lagging-begun opening history entry version lane op free begun =
     and_left false b e = cc e
 
 lagging-stays :
-  (opening : Opening) (history : History) (entry : Entry) (version : Version) (lane : LaneId) (op : OpId) →
-  hinders entry.event (Quiet lane.host version) ≡ false → lagging opening history version lane op ≡ false →
-  lagging opening (entry ∷ history) version lane op ≡ false
+    (opening : Opening) (history : History) (entry : Entry) (version : Version) (lane : LaneId) (op : OpId) →
+    hinders entry.event (Quiet lane.host version) ≡ false → lagging opening history version lane op ≡ false →
+    lagging opening (entry ∷ history) version lane op ≡ false
 lagging-stays opening history entry version lane op free before =
     (elim (begins history entry.event lane op) as (λ b. begins history entry.event lane op ≡ b → lagging opening (entry ∷ history) version lane op ≡ false) [
       | true ↦ λ e. lagging-begun opening history entry version lane op free e
@@ -273,9 +273,9 @@ lagging-stays opening history entry version lane op free before =
     ]) refl
 
 lags-stays :
-  (opening : Opening) (history : History) (entry : Entry) (version : Version) (lane : LaneId) →
-  hinders entry.event (Quiet lane.host version) ≡ false → lags opening history version lane ≡ false →
-  lags opening (entry ∷ history) version lane ≡ false
+    (opening : Opening) (history : History) (entry : Entry) (version : Version) (lane : LaneId) →
+    hinders entry.event (Quiet lane.host version) ≡ false → lags opening history version lane ≡ false →
+    lags opening (entry ∷ history) version lane ≡ false
 lags-stays opening history entry version lane free before =
     let old = lagging opening history version lane in
     let new = lagging opening (entry ∷ history) version lane in
@@ -297,9 +297,9 @@ abbrev lane_at : HostId → ℕ → LaneId
 lane_at host number = record { host = host; lane = number }
 
 no_lane_lags :
-  (opening : Opening) (history : History) (entry : Entry) (version : Version) (host : HostId) (numbers : List ℕ) →
-  hinders entry.event (Quiet host version) ≡ false → list_any (lags opening history version) (map (lane_at host) numbers) ≡ false →
-  list_any (lags opening (entry ∷ history) version) (map (lane_at host) numbers) ≡ false
+    (opening : Opening) (history : History) (entry : Entry) (version : Version) (host : HostId) (numbers : List ℕ) →
+    hinders entry.event (Quiet host version) ≡ false → list_any (lags opening history version) (map (lane_at host) numbers) ≡ false →
+    list_any (lags opening (entry ∷ history) version) (map (lane_at host) numbers) ≡ false
 no_lane_lags opening history entry version host [] free none = refl
 no_lane_lags opening history entry version host (number ∷ numbers) free none =
     let old = lags opening history version in
@@ -308,11 +308,11 @@ no_lane_lags opening history entry version host (number ∷ numbers) free none =
     (no_lane_lags opening history entry version host numbers free (or_second (old (lane_at host number)) (list_any old (map (lane_at host) numbers)) none))
 
 quiet-stays :
-  (opening : Opening) (history : History) (entry : Entry) (host : HostId) (version : Version) →
-  applied_count history host ≤ length (log_of history) →
-  is_by (ByHost host) entry.event ≡ false → hinders entry.event (Quiet host version) ≡ false →
-  broken_rule opening history (Quiet host version) ≡ None →
-  StaysEnabled opening history entry (Quiet host version)
+    (opening : Opening) (history : History) (entry : Entry) (host : HostId) (version : Version) →
+    applied_count history host ≤ length (log_of history) →
+    is_by (ByHost host) entry.event ≡ false → hinders entry.event (Quiet host version) ≡ false →
+    broken_rule opening history (Quiet host version) ≡ None →
+    StaysEnabled opening history entry (Quiet host version)
 quiet-stays opening history entry host version within other free enabled =
     let newest = version_of opening history host in
     let below : List (Bool × EventRule) = (has_live_below opening history host version, LiveBelow) ∷ [] in
@@ -321,9 +321,9 @@ quiet-stays opening history entry host version within other free enabled =
     let state = applied_state-other opening history entry host within other in
     record {
       enabled =
-        passing (nat_lt (version_of opening (entry ∷ history) host).0 version.0) VersionAhead ((has_live_below opening (entry ∷ history) host version, LiveBelow) ∷ [])
-        (ap (λ (now : Topology). nat_lt now.version.0 version.0) state ∙ not_ahead)
-        (passing (has_live_below opening (entry ∷ history) host version) LiveBelow [] (no_lane_lags opening history entry version host (numbers_below opening.lanes) free none) refl);
+          passing (nat_lt (version_of opening (entry ∷ history) host).0 version.0) VersionAhead ((has_live_below opening (entry ∷ history) host version, LiveBelow) ∷ [])
+          (ap (λ (now : Topology). nat_lt now.version.0 version.0) state ∙ not_ahead)
+          (passing (has_live_below opening (entry ∷ history) host version) LiveBelow [] (no_lane_lags opening history entry version host (numbers_below opening.lanes) free none) refl);
       outputs = λ proposal. refl;
     }
 
@@ -334,9 +334,9 @@ or_none None b e = refl
 or_none (Some x) b e = cc e
 
 stays :
-  (opening : Opening) (history : History) (entry : Entry) (event : Event) → ((host : HostId) → applied_count history host ≤ length (log_of history)) →
-  is_by (actor_of event) entry.event ≡ false → hinders entry.event event ≡ false → broken_rule opening history event ≡ None →
-  StaysEnabled opening history entry event
+    (opening : Opening) (history : History) (entry : Entry) (event : Event) → ((host : HostId) → applied_count history host ≤ length (log_of history)) →
+    is_by (actor_of event) entry.event ≡ false → hinders entry.event event ≡ false → broken_rule opening history event ≡ None →
+    StaysEnabled opening history entry event
 stays opening history entry (Begin lane operation version) within other free enabled =
     begin-stays opening history entry lane operation version (within lane.host) other free enabled
 stays opening history entry (Take lane at) within other free enabled =
@@ -344,22 +344,22 @@ stays opening history entry (Take lane at) within other free enabled =
     record {
       enabled = ap (message_rule (is_for (ByLane lane) is_answer)) same ∙ enabled;
       outputs = λ proposal i.
-        take_outputs
-        (λ op. live_request-other opening history entry lane op other i)
-        (λ op. answers_of-other history entry lane op other i)
-        (message_of (same i));
+          take_outputs
+          (λ op. live_request-other opening history entry lane op other i)
+          (λ op. answers_of-other history entry lane op other i)
+          (message_of (same i));
     }
 stays opening history entry (Timeout lane op) within other free enabled =
     record {
       enabled = ap timeout_rule (is_live-other history entry lane op other) ∙ enabled;
       outputs = λ proposal i.
-        timeout_outputs op (live_request-other opening history entry lane op other i) (answers_of-other history entry lane op other i);
+          timeout_outputs op (live_request-other opening history entry lane op other i) (answers_of-other history entry lane op other i);
     }
 stays opening history entry (Apply host) within other free enabled =
     record {
       enabled =
-        ap (λ n. apply_rule n (length (log_of (entry ∷ history)))) (applied_count-other history entry host other)
-        ∙ more_to_apply (applied_count history host) (accepted_command entry.event entry.outputs) (log_of history) enabled;
+          ap (λ n. apply_rule n (length (log_of (entry ∷ history)))) (applied_count-other history entry host other)
+          ∙ more_to_apply (applied_count history host) (accepted_command entry.event entry.outputs) (log_of history) enabled;
       outputs = λ proposal. refl;
     }
 stays opening history entry (Quiet host version) within other free enabled =
@@ -370,19 +370,19 @@ stays opening history entry (Serve host at) within other free enabled =
     record {
       enabled = ap (message_rule (is_for (ByHost host) is_request)) same ∙ enabled;
       outputs = λ proposal i.
-        serve_outputs
-        (state i).fence
-        (λ key. held_cell-other opening history entry host key other i)
-        (held_cells-other opening history entry host other i)
-        (message_of (same i));
+          serve_outputs
+          (state i).fence
+          (λ key. held_cell-other opening history entry host key other i)
+          (held_cells-other opening history entry host other i)
+          (message_of (same i));
     }
 stays opening history entry (Answer host at) within other free enabled =
     let same = output-stays (is_for (ByHost host) is_question) history entry at (or_none (message_rule (is_for (ByHost host) is_question) (output_at history at)) _ enabled) in
     let state = applied_state-other opening history entry host (within host) other in
     let rule : broken_rule opening (entry ∷ history) (Answer host at) ≡ broken_rule opening history (Answer host at) =
     λ i. answer_rule (is_for (ByHost host) is_question)
-        (is_so (floor_of-other history entry host other i) (state i) (λ session. is_done (pull_of-other opening history entry host session other i)))
-        (same i) in
+    (is_so (floor_of-other history entry host other i) (state i) (λ session. is_done (pull_of-other opening history entry host session other i)))
+    (same i) in
     record {
       enabled = rule ∙ enabled;
       outputs = λ proposal. ap (λ output. answer_outputs (message_of output)) same;
@@ -408,7 +408,7 @@ stays opening history entry (TakeChunk host at) within other free enabled =
     record {
       enabled = ap (message_rule (is_for (ByHost host) is_chunk)) same ∙ enabled;
       outputs = λ proposal i.
-        chunk_outputs (λ session. pull_of-other opening history entry host session other i) (message_of (same i));
+          chunk_outputs (λ session. pull_of-other opening history entry host session other i) (message_of (same i));
     }
 stays opening history entry (Look topo) within other free enabled = record { enabled = refl; outputs = λ proposal. refl }
 stays opening history entry (Ask topo host what) within other free enabled = record { enabled = refl; outputs = λ proposal. refl }

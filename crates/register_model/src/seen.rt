@@ -35,7 +35,8 @@ impl Seen {
         }
     }
 
-    /// Sees one event more: whether what was seen is a run with it too. After `false` nothing more is said.
+    /// Sees one event more: whether what was seen is a run with it too. After `false` or `NoMemory` nothing is said of
+    /// what is kept.
     pub fn take(&mut self, event: &ClientEvent) -> Result<bool, NoMemory>
         ensures { Judges self.old event.now self.new result }
     {

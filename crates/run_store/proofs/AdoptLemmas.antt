@@ -226,7 +226,7 @@ found_tablet gs rest t at g tablet laid at_is within read =
 pub missing_tablet : (gs : List Grouped) (rest : Cells) (t : TableId) (tablet : ℕ) → IsLaid gs rest → length gs ≤ index_of gs t → tablet < 2 ^ log2_of (log2s_of gs) t → tablet_cells rest t 0 0 ≡ tablet_cells (store_cells gs rest) t (log2_of (log2s_of gs) t) tablet
 missing_tablet gs rest t tablet laid missing below =
     let none : 0 ≡ log2_of (log2s_of gs) t = missing_log2 gs t missing in
-    let one : tablet < 2 ^ 0 = rw none below in
+    let one : tablet < 1 = (let P : ℕ → Type 0 = λ n. tablet < 2 ^ n in subst P (sym none) below) in
     let first : 0 ≡ tablet = omega arith in
     ap (λ (xs : Cells). tablet_cells xs t 0 0) (sym (missing_cells gs rest t missing))
     ∙ tablet_cells-store_cells gs rest t 0 0 laid.each laid.rest

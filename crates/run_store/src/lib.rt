@@ -10,3 +10,6 @@ mod table;
 mod tables;
 
 pub use store::RunStore;
+
+#[cfg(test)]
+mod tests;

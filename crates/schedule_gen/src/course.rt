@@ -69,7 +69,7 @@ impl Course {
         }
     }
 
-    /// The text of the next round, which is round `round` from 1.
+    /// The text of the next round, which is round `round` from 1. After `NoMemory` nothing is said of the course.
     pub fn next(&mut self, alloc: Global, round: u16) -> Result<String, NoMemory>
         requires steps { self.old.steps + 1 < 2 ^ 32 }
         requires tablet { IfSome self.old.moving (λ moving. moving.tablet < 4) }

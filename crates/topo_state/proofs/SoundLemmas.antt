@@ -277,4 +277,3 @@ sound_after s c i fit ok state id t' found =
           subst (λ (m : List HostId). IsTable m t') (sym (members_then s c i))
           (subst (IsTable (members_after c s.members)) same (table_sound s c i fit ok id t e (state id t e)))
     ] refl
-

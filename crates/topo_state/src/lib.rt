@@ -17,3 +17,6 @@ pub use data::{Resize, ResizeKind, Table, TableList};
 pub use laws::{law_fences_rise, law_members_before, law_states_stay_sound, law_versions_rise};
 pub use moves::{Move, has_split, move_of};
 pub use state::TopoState;
+
+#[cfg(test)]
+mod tests;

@@ -1,0 +1,5 @@
+pub mod NameLemmas
+pub mod EntryLemmas
+pub mod LegalLemmas
+pub mod BegunLemmas
+pub mod LiveLemmas
