@@ -100,14 +100,17 @@ take_some (suc max) (x ∷ xs) most some empty = cc
 
 pub lends_more : {X : Type 0} (more : Bool) (n : ℕ) (xs ys : List X) → (IsTrue more ↔ ((n < length xs) ⊎ IsTrue (nat_lt 0 (length ys)))) → n ≤ length xs → IsTrue more ↔ (n < length (xs ++ ys))
 lends_more more n xs ys says within =
-    let long = length-append xs ys in
-    (λ yes. elim (says.0 yes) [ | inl here ↦ omega arith | inr further ↦ later further ],
-     λ below. elim (cases_of n (length xs)) [ | inl here ↦ says.1 (inl here) | inr end ↦ says.1 (inr (some end below)) ])
+    let long = length-append xs ys in (
+      λ yes. elim (says.0 yes) [ inl here ↦ omega arith | inr further ↦ later further ],
+      λ below. elim (cases_of n (length xs)) [ inl here ↦ says.1 (inl here) | inr end ↦ says.1 (inr (some end below)) ],
+    )
   where
     later : IsTrue (nat_lt 0 (length ys)) → n < length (xs ++ ys)
     later further = grind (arith, nat_tests, length-append xs ys)
+
     cases_of : (a b : ℕ) → (a < b) ⊎ (b ≤ a)
     cases_of a b = grind arith
+
     some : length xs ≤ n → n < length (xs ++ ys) → IsTrue (nat_lt 0 (length ys))
     some end below = grind (arith, nat_tests, length-append xs ys)
 

@@ -61,13 +61,13 @@ cell_at-without table [] t k = elim (table.0 == t.0) as (λ b. (let missing : Op
 cell_at-without table (x ∷ xs) t k =
     elim (x.0.0 == table.0) as (λ b. (x.0.0 == table.0) ≡ b → cell_at (cond (not b) (x ∷ without table xs) (without table xs)) t k ≡ cond (table.0 == t.0) None (cell_at (x ∷ xs) t k)) [
       | true ↦ λ own. cell_at-without table xs t k ∙ elim (table.0 == t.0) as (λ b. (table.0 == t.0) ≡ b → cond b None (cell_at xs t k) ≡ cond b None (cond (is_same x.0 x.1.token t k) (Some x.1.cell) (cell_at xs t k))) [
-          | true ↦ λ _. refl
-          | false ↦ λ apart. let other : (x.0.0 == t.0) ≡ false = grind (arith, nat_tests) in rw other
-        ] refl
+        | true ↦ λ _. refl
+        | false ↦ λ apart. let other : (x.0.0 == t.0) ≡ false = grind (arith, nat_tests) in rw other
+      ] refl
       | false ↦ λ stays. elim (table.0 == t.0) as (λ b. (table.0 == t.0) ≡ b → cond (is_same x.0 x.1.token t k) (Some x.1.cell) (cell_at (without table xs) t k) ≡ cond b None (cond (is_same x.0 x.1.token t k) (Some x.1.cell) (cell_at xs t k))) [
-          | true ↦ λ same. let other : (x.0.0 == t.0) ≡ false = grind (arith, nat_tests) in rw other (cell_at-without table xs t k ∙ rw same)
-          | false ↦ λ apart. let rest : cell_at (without table xs) t k ≡ cell_at xs t k = cell_at-without table xs t k ∙ rw apart in rw rest
-        ] refl
+        | true ↦ λ same. let other : (x.0.0 == t.0) ≡ false = grind (arith, nat_tests) in rw other (cell_at-without table xs t k ∙ rw same)
+        | false ↦ λ apart. let rest : cell_at (without table xs) t k ≡ cell_at xs t k = cell_at-without table xs t k ∙ rw apart in rw rest
+      ] refl
     ] refl
 
 cell_at-other_table : (table : TableId) (xs : Cells) (t : TableId) (k : Token) → IsOfTable table xs → (table.0 == t.0) ≡ false → cell_at xs t k ≡ None
@@ -109,13 +109,13 @@ cell_at-of_one table [] t k = elim (table.0 == t.0) as (λ b. (let missing : Opt
 cell_at-of_one table (x ∷ xs) t k =
     elim (x.0.0 == table.0) as (λ b. (x.0.0 == table.0) ≡ b → cell_at (cond b (x ∷ of_one table xs) (of_one table xs)) t k ≡ cond (table.0 == t.0) (cell_at (x ∷ xs) t k) None) [
       | true ↦ λ own. elim (table.0 == t.0) as (λ b. (table.0 == t.0) ≡ b → cond (is_same x.0 x.1.token t k) (Some x.1.cell) (cell_at (of_one table xs) t k) ≡ cond b (cond (is_same x.0 x.1.token t k) (Some x.1.cell) (cell_at xs t k)) None) [
-          | true ↦ λ same. let rest : cell_at (of_one table xs) t k ≡ cell_at xs t k = cell_at-of_one table xs t k ∙ rw same in rw rest
-          | false ↦ λ apart. let other : (x.0.0 == t.0) ≡ false = grind (arith, nat_tests) in rw other (cell_at-of_one table xs t k ∙ rw apart)
-        ] refl
+        | true ↦ λ same. let rest : cell_at (of_one table xs) t k ≡ cell_at xs t k = cell_at-of_one table xs t k ∙ rw same in rw rest
+        | false ↦ λ apart. let other : (x.0.0 == t.0) ≡ false = grind (arith, nat_tests) in rw other (cell_at-of_one table xs t k ∙ rw apart)
+      ] refl
       | false ↦ λ goes. cell_at-of_one table xs t k ∙ elim (table.0 == t.0) as (λ b. (table.0 == t.0) ≡ b → cond b (cell_at xs t k) None ≡ cond b (cond (is_same x.0 x.1.token t k) (Some x.1.cell) (cell_at xs t k)) None) [
-          | true ↦ λ same. let other : (x.0.0 == t.0) ≡ false = grind (arith, nat_tests) in rw other
-          | false ↦ λ _. refl
-        ] refl
+        | true ↦ λ same. let other : (x.0.0 == t.0) ≡ false = grind (arith, nat_tests) in rw other
+        | false ↦ λ _. refl
+      ] refl
     ] refl
 
 -- lists in order that have the same cells of a table

@@ -144,14 +144,7 @@ impl Store for RunStore {
         after: Option<Token>,
         max: usize,
     ) -> Chunk<'_> {
-        tables::chunk(
-            self.tables.as_slice(),
-            &self.rest,
-            table,
-            range,
-            after,
-            max,
-        )
+        tables::chunk(self.tables.as_slice(), &self.rest, table, range, after, max)
     }
 
     fn drop_range(&mut self, table: TableId, range: TokenRange) {

@@ -29,7 +29,12 @@ pub fn index_of(tables: &[TableRuns], table: TableId) -> usize
 }
 
 /// The cell that is stored for a token.
-pub fn get<'a>(tables: &'a [TableRuns], rest: &'a VecStore, table: TableId, token: Token) -> Option<&'a Cell>
+pub fn get<'a>(
+    tables: &'a [TableRuns],
+    rest: &'a VecStore,
+    table: TableId,
+    token: Token,
+) -> Option<&'a Cell>
     requires { IsLaid tables.now rest.now.cells }
     ensures { option_copied result ≡ cell_at (store_cells tables.now rest.now.cells) table token }
 {
