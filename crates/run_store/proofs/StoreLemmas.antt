@@ -1,24 +1,22 @@
 -- The cells of a store are for each table those that lie in its runs, or among the rest.
-use Rattle.std.proofs.Common.{◌≡◌, ◌≢◌, ℕ, zero, suc, ◌+◌, ◌^◌, ◌<◌, ◌≤◌, ◌==◌, ◌&&◌, nat_lt, nat_le, not, min, Bool, true, false, cond, Option, Some, None, List, [], ◌∷◌, ◌++◌, length, get_or, set, map, filter, refl, ap, sym, subst, ◌∙◌, arith}
-use Rattle.std.specs.Prelude.{int_le}
-use Rattle.std.specs.Ordering.{int_eq, is_lt}
+use Rattle.std.proofs.Common.{◌≡◌, ℕ, zero, suc, ◌+◌, ◌<◌, ◌≤◌, ◌==◌, ◌&&◌, nat_lt, not, Bool, true, false, cond, Option, Some, None, List, [], ◌∷◌, length, get_or, set, map, filter, refl, ap, sym, subst, ◌∙◌, arith}
+use Rattle.std.specs.Ordering.{is_lt}
 use Rattle.std.proofs.lemmas.Bool.Decides.{nat_tests}
 use Rattle.base_ids.specs.declared.ids.TableId.{TableId}
 use Rattle.cell_merge.specs.Cell.{greater_cell, cell_order}
 use Rattle.cell_merge.specs.declared.cell.Cell.{Cell}
 use Rattle.token_ring.specs.declared.token.Token.{Token}
 use Rattle.token_ring.specs.declared.ring.TokenRange.{TokenRange}
-use Rattle.token_ring.specs.Ring.{place, tablet_at, first_place, last_place}
-use Rattle.token_ring.proofs.Places.{place_below, place_pos, tablet_below}
+use Rattle.token_ring.specs.Ring.{tablet_at}
 use Rattle.replica_store.specs.declared.store.Stored.{Stored}
 use Rattle.replica_store.specs.Cells.{Cells, IsOrdered, IsAfter, rank, rank_of, is_same, is_within, is_inside, is_above, cell_at, only_at, range_cells, outside}
-use Rattle.replica_store.specs.Columns.{put_at, end_of}
-use Rattle.replica_store.proofs.RankLemmas.{is_same-rank, is_within-rank}
+use Rattle.replica_store.specs.Columns.{put_at}
+use Rattle.replica_store.proofs.RankLemmas.{is_same-rank}
 use Rattle.replica_store.proofs.PutLemmas.{IsOrdered-put_at, cell_at-put_at}
 use Rattle.replica_store.proofs.RangeLemmas.{IsOrdered-filter}
-use Rattle.replica_store.proofs.MapLemmas.{one_list, cell_at-outside}
-use Rattle.run_store.specs.Runs.{of_table, tablet_cells}
-use Rattle.run_store.specs.Tables.{Grouped, IsOfTable, IsTable, AreTables, put_all, without, store_cells, cells_of, index_of, log2_of, log2s_of, least_room}
+use Rattle.replica_store.proofs.MapLemmas.{one_list}
+use Rattle.run_store.specs.Runs.{tablet_cells}
+use Rattle.run_store.specs.Tables.{Grouped, IsOfTable, IsTable, AreTables, put_all, without, store_cells, cells_of, index_of, log2s_of, least_room}
 
 pub one_table : (t u : TableId) → (t.0 == u.0) ≡ true → t ≡ u
 one_table t u same = let number : t.0 ≡ u.0 = grind (arith, nat_tests) in λ i. record { 0 = number i }
