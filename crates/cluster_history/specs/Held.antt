@@ -19,7 +19,9 @@ use Rattle.stream_core.specs.Pulls.{Pulling, is_next, pull_after}
 use Rattle.stream_core.specs.declared.data.ChunkMsg.{ChunkMsg}
 use Rattle.topo_state.specs.State.{Topology}
 use Rattle.cluster_history.specs.History.{History, is_restart_of, message_at}
-use Rattle.cluster_history.specs.Moves.{Move, first_pull, move_of}
+use Rattle.topo_state.specs.Moves.{move_of}
+use Rattle.topo_state.specs.declared.moves.Move.{Move}
+use Rattle.cluster_history.specs.Moves.{first_pull}
 use Rattle.cluster_history.specs.Topology.{applied_state}
 use Rattle.cluster_history.specs.declared.data.Entry.{Entry}
 use Rattle.cluster_history.specs.declared.data.Event.{Event}

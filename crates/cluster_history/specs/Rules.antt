@@ -21,7 +21,7 @@ use Rattle.topo_state.specs.declared.command.Command.TheVariants.{Advance, Final
 use Rattle.topo_state.specs.declared.data.Table.{Table}
 use Rattle.cluster_history.specs.Held.{is_done}
 use Rattle.cluster_history.specs.History.{message_of}
-use Rattle.cluster_history.specs.Moves.{cleans, has_split, is_split_by, move_of, streams}
+use Rattle.topo_state.specs.Moves.{cleans, has_split, is_split_by, move_of, streams}
 use Rattle.cluster_history.specs.declared.data.Message.{Message}
 use Rattle.cluster_history.specs.declared.data.Message.TheVariants.{Ask as AskSent}
 use Rattle.cluster_history.specs.declared.data.Output.{Output}

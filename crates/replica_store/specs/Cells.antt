@@ -1,5 +1,5 @@
 -- What a store holds: cells, in the order of their tables and within a table of their tokens.
-use Rattle.std.specs.Prelude.{ℕ, ◌+◌, ◌*◌, ◌^◌, ◌<◌, ◌<ℤ◌, ◌==◌, ◌&&◌, Bool, true, not, int_le, int_lt, List, [], ◌∷◌, map, filter, Option, Some, None, if◌then◌else◌}
+use Rattle.std.specs.Prelude.{◌≡◌, ℕ, ◌+◌, ◌*◌, ◌^◌, ◌<◌, ◌≤◌, ◌<ℤ◌, ◌==◌, ◌&&◌, Bool, true, not, int_le, int_lt, List, [], ◌∷◌, map, filter, Option, Some, None, option_map, if◌then◌else◌}
 use Rattle.std.specs.Ordering.{int_eq}
 use Rattle.base_ids.specs.declared.ids.TableId.{TableId}
 use Rattle.cell_merge.specs.declared.cell.Cell.{Cell}
@@ -76,3 +76,7 @@ IsAllAbove token (s ∷ rest) = (token.value <ℤ s.token.value) × IsAllAbove t
 abbrev pub IsAscending : List Stored → Type 0
 IsAscending [] = Unit {0}
 IsAscending (s ∷ rest) = IsAllAbove s.token rest × IsAscending rest
+
+-- the run count of a table that was to be regrouped: told where it was told before, and a power of two up to 1024
+abbrev pub IsRegrouped : Option ℕ → Option ℕ → Type 0
+IsRegrouped before now = (log2 : ℕ) × (log2 ≤ 10) × (now ≡ option_map (λ _. 2 ^ log2) before)

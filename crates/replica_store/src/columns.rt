@@ -15,7 +15,7 @@ use std::cmp::Ordering;
 use token_ring::{Token, TokenRange};
 
 /// The place of a token of a table among the places of all tables.
-fn rank(table: TableId, token: Token) -> u128
+pub fn rank(table: TableId, token: Token) -> u128
     ensures place { result ≡ rank table token }
     ensures bound { result < 2 ^ 96 }
 {
@@ -73,7 +73,7 @@ pub(crate) fn find<'a>(
 }
 
 /// The first place of a range above `after`.
-fn start_of(table: TableId, range: TokenRange, after: Option<Token>) -> u128
+pub fn start_of(table: TableId, range: TokenRange, after: Option<Token>) -> u128
     ensures { result ≡ start_of table range after }
 {
     let first = rank(table, range.first);
@@ -156,7 +156,7 @@ pub(crate) fn drop_range(
 }
 
 /// Makes a cell the greater one of itself and another.
-fn raise(cell: &mut Cell, other: &Cell)
+pub fn raise(cell: &mut Cell, other: &Cell)
     ensures { cell.new ≡ (if is_lt (cell_order cell.old other.now) then other.now else cell.old) }
 {
     if Cell::compare(cell, other) == Ordering::Less {
@@ -164,8 +164,8 @@ fn raise(cell: &mut Cell, other: &Cell)
     }
 }
 
-/// Inserts an item into a column that has room.
-fn insert<T: Drop>(column: &mut Vec<T>, at: usize, item: T)
+/// Inserts an item into a column that has room for it.
+pub fn insert<T: Drop>(column: &mut Vec<T>, at: usize, item: T)
     requires within { at ≤ length column.old.items }
     requires room { vec_len column.old < vec_capacity column.old }
     ensures items { column.new.items ≡ insert column.old.items at item }
@@ -178,7 +178,7 @@ fn insert<T: Drop>(column: &mut Vec<T>, at: usize, item: T)
 }
 
 /// Takes the items from `start` to below `end` out of a column.
-fn take_out<T: Drop>(column: &mut Vec<T>, start: usize, end: usize)
+pub fn take_out<T: Drop>(column: &mut Vec<T>, start: usize, end: usize)
     requires ends { start ≤ end }
     requires within { end ≤ length column.old.items }
     ensures items { column.new.items ≡ take start column.old.items ++ drop end column.old.items }

@@ -33,7 +33,7 @@ pub struct Chunk<'a> {
 /// Callers see three things of a store: `cells`, the map as a list in the order of tables and tokens; `spare`, how many
 /// cells can be put without taking memory; and `runs`, where the store tells it, in how many runs a table's cells lie.
 pub trait Store {
-    ghost use Rattle.replica_store.specs.Cells.{Cells, IsOrdered, cell_at, only_at, range_cells, outside};
+    ghost use Rattle.replica_store.specs.Cells.{Cells, IsOrdered, IsRegrouped, cell_at, only_at, range_cells, outside};
 
     ghost cells: { Self → Cells };
 
@@ -91,11 +91,12 @@ pub trait Store {
         ensures room { spare self.old ≤ spare self.new }
         ensures same_runs { (t : TableId) → runs self.new t ≡ runs self.old t };
 
-    /// Lays the cells of a table into `2^log2` runs, one for each tablet. Of the room afterwards nothing is said.
+    /// Lays the cells of a table into `2^log2` runs, one for each tablet. Of the room afterwards nothing is said. `NoMemory`
+    /// leaves the map, and as run count of the table, where it is told, some power of two up to 1024.
     fn regroup(&mut self, table: TableId, log2: u8) -> Result<(), NoMemory>
         requires { log2 ≤ 10 }
         ensures map { cells self.new ≡ cells self.old }
         ensures ok { OnOk result (runs self.new table ≡ option_map (λ _. 2 ^ log2) (runs self.old table)) }
-        ensures err { OnErr result (runs self.new table ≡ runs self.old table) }
+        ensures err { OnErr result (IsRegrouped (runs self.old table) (runs self.new table)) }
         ensures other_runs { (t : TableId) → t ≢ table → runs self.new t ≡ runs self.old t };
 }

@@ -45,6 +45,20 @@ impl VecStore {
             stored: Vec::new(alloc),
         }
     }
+
+    /// The cells of a range of a table, in the order of their tokens.
+    pub fn range(&self, table: TableId, range: TokenRange) -> &[Stored]
+        ensures cells { result.now ≡ range_cells self.now.cells table range None }
+        ensures ordered { IsOrdered self.now.cells }
+    {
+        columns::range_of(
+            self.tables.as_slice(),
+            self.stored.as_slice(),
+            table,
+            range,
+            None,
+        )
+    }
 }
 
 impl Store for VecStore {

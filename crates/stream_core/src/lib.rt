@@ -2,5 +2,14 @@
 #![tactic(auto)]
 
 mod data;
+mod laws;
+mod pull;
+mod serve;
 
 pub use data::{ChunkAsk, ChunkMsg};
+pub use laws::{law_chunk, law_passed};
+pub use pull::{Pull, Took};
+pub use serve::serve_chunk;
+
+#[cfg(test)]
+mod tests;

@@ -1,0 +1,4 @@
+pub mod Pulls
+pub mod Host
+pub mod Groups
+pub mod Ready
