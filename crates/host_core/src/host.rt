@@ -6,10 +6,8 @@ ghost use Rattle.host_core.specs.Pulls.{pull_in, first_pull};
 ghost use Rattle.host_core.specs.Groups.{grouping_of, runs_with, AreLeft};
 
 use crate::data::{HostInput, HostOut, Made};
-use crate::effects;
-use crate::grouping;
-use crate::making;
 use crate::pulls::PullTable;
+use crate::{effects, grouping, making};
 use barrier_core::What;
 use base_ids::{EventRule, HostId, NoMemory, Session, Version};
 use replica_core::serve_write;
@@ -184,8 +182,12 @@ impl<S: Store> HostCore<S> {
     {
         match input {
             HostInput::Apply(command) => {
-                let next =
-                    making::next_state(self.alloc, &self.state, self.applied, command.get())?;
+                let next = making::next_state(
+                    self.alloc,
+                    &self.state,
+                    self.applied,
+                    command.get(),
+                )?;
                 Ok(Some(next))
             }
             _ => Ok(None),

@@ -89,11 +89,7 @@ fn pull_out(state: &TopoState, host: HostId, pulls: &PullTable, session: Session
 }
 
 /// The chunk that is asked for, shared.
-fn chunk_for<S: Store>(
-    alloc: Global,
-    store: &S,
-    ask: &ChunkAsk,
-) -> Result<HostOut, NoMemory>
+fn chunk_for<S: Store>(alloc: Global, store: &S, ask: &ChunkAsk) -> Result<HostOut, NoMemory>
     ensures { IfOk result (λ out. out ≡ HostOut.Chunk (served_chunk (S.cells store.now) ask.now)) }
 {
     let chunk = serve_chunk(alloc, store, ask)?;
