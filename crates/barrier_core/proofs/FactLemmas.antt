@@ -181,7 +181,7 @@ module _ (facts : List Told) (what : What) (hosts : List HostId) (i : ℕ) (d : 
       ap (λ a. lesser_host a (Some (get_or hosts i d))) so_far ∙ sym (least_without-more facts what hosts i d below ∙ ap (λ b. lesser_host (least_without facts what (take i hosts)) (cond b None (Some (get_or hosts i d)))) untold)
 
 -- none is waited for exactly where each host has told it
-least_without-none : (facts : List Told) (what : What) (hosts : List HostId) → is_none (least_without facts what hosts) ≡ all_told facts what hosts
+pub least_without-none : (facts : List Told) (what : What) (hosts : List HostId) → is_none (least_without facts what hosts) ≡ all_told facts what hosts
 least_without-none facts what [] = refl
 least_without-none facts what (host ∷ rest) =
     elim (has_told facts what host) as (λ b. is_none (least_host (cond (not b) (host ∷ waited) waited)) ≡ (b && all_told facts what rest)) [

@@ -1,1 +1,1 @@
-mod FactLemmas
+pub mod FactLemmas

@@ -199,7 +199,7 @@ fn fact_of(mode: Mode, version: Version) -> What
 }
 
 /// The host of the lesser number, where there are two.
-fn lesser_host(a: Option<HostId>, b: Option<HostId>) -> Option<HostId>
+pub fn lesser_host(a: Option<HostId>, b: Option<HostId>) -> Option<HostId>
     ensures { result ≡ lesser_host a b }
 {
     match (a, b) {

@@ -6,4 +6,4 @@ mod data;
 mod evidence;
 
 pub use data::{Ask, Fact, Mode, Told, What};
-pub use evidence::Evidence;
+pub use evidence::{Evidence, lesser_host};

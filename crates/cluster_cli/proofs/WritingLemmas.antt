@@ -5,8 +5,9 @@ use Rattle.std.proofs.lemmas.List.{take-append-drop, take-append-le, take_more}
 use Rattle.std.proofs.lemmas.List.Folds.{concat-append}
 use Rattle.std.specs.List.{concat}
 use Rattle.std.specs.Result.{OnErr}
-use Rattle.fault_io.specs.Held.{after_held, AddsPart}
-use Rattle.fault_io.proofs.Pieces.{after_held-append}
+use Rattle.fault_io.specs.Counts.{SinkAccount}
+use Rattle.fault_io.specs.Written.{content_after, AddsPart}
+use Rattle.fault_io.proofs.Pieces.{content_after-append}
 
 -- the lines are those before this one, this one, and those after it
 pub around : (lines : List (List ℕ)) (i : ℕ) (line : List ℕ) → i < length lines → line ≡ get_or lines i line
@@ -21,20 +22,20 @@ pub take-around : (lines : List (List ℕ)) (i : ℕ) (line : List ℕ) → i < 
 take-around lines i line within is = take_more lines i line within ∙ ap (λ l. take i lines ++ l ∷ []) (sym is)
 
 -- after the lines before this one, and this one, those up to it were written
-pub after_held-line : (held0 held1 held2 : Option (List ℕ)) (lines : List (List ℕ)) (i : ℕ) (line : List ℕ) → i < length lines → line ≡ get_or lines i line
-    → held1 ≡ after_held held0 (concat (take i lines)) → held2 ≡ after_held held1 line → held2 ≡ after_held held0 (concat (take (i + 1) lines))
-after_held-line held0 held1 held2 lines i line within is first then =
+pub content_after-line : (content0 content1 content2 : Option (List ℕ)) (lines : List (List ℕ)) (i : ℕ) (line : List ℕ) → i < length lines → line ≡ get_or lines i line
+    → content1 ≡ content_after content0 (concat (take i lines)) → content2 ≡ content_after content1 line → content2 ≡ content_after content0 (concat (take (i + 1) lines))
+content_after-line content0 content1 content2 lines i line within is first then =
     let pieces : concat (take i lines) ++ line ≡ concat (take (i + 1) lines) =
     rw (take-around lines i line within is, concat-append (take i lines) (line ∷ [])) (ap (λ l. concat (take i lines) ++ l) (sym (append-nil line)))
     in then
-    ∙ ap (λ held. after_held held line) first
-    ∙ after_held-append held0 (concat (take i lines)) line
-    ∙ ap (after_held held0) pieces
+    ∙ ap (λ content. content_after content line) first
+    ∙ content_after-append content0 (concat (take i lines)) line
+    ∙ ap (content_after content0) pieces
 
 -- a part of this line after the lines before it is a part of all lines
-pub part-of-lines : (held0 held1 held2 : Option (List ℕ)) (lines : List (List ℕ)) (i : ℕ) (line : List ℕ) → i < length lines → line ≡ get_or lines i line
-    → held1 ≡ after_held held0 (concat (take i lines)) → AddsPart held1 held2 line → AddsPart held0 held2 (concat lines)
-part-of-lines held0 held1 held2 lines i line within is first part =
+pub part-of-lines : (a b c : SinkAccount) (lines : List (List ℕ)) (i : ℕ) (line : List ℕ) → i < length lines → line ≡ get_or lines i line
+    → b.content ≡ content_after a.content (concat (take i lines)) → AddsPart b c line → AddsPart a c (concat lines)
+part-of-lines a b c lines i line within is first part =
     let before = concat (take i lines) in
     let behind = concat (drop (i + 1) lines) in
     let n = part.0 in
@@ -45,7 +46,7 @@ part-of-lines held0 held1 held2 lines i line within is first part =
     in (
       length before + n,
       rw all (omega (arith, part.1, length-append before (line ++ behind), length-append line behind)),
-      part.2 ∙ ap (λ held. after_held held (take n line)) first ∙ after_held-append held0 before (take n line) ∙ ap (after_held held0) (sym taken),
+      part.2 ∙ ap (λ content. content_after content (take n line)) first ∙ content_after-append a.content before (take n line) ∙ ap (content_after a.content) (sym taken),
     )
 
 pub on-err : {T E : Type 0} (result : Result T E) {P : Type 0} → P → OnErr result P

@@ -68,7 +68,8 @@ pub record Played : Type 0 where
 -- the play stops at a line that breaks a rule, and goes on else
 abbrev pub stopped_or : Option EventRule → Journal → ℕ → Played → Played
 stopped_or None journal line later = later
-stopped_or (Some rule) journal line later = record { journal = journal; stop = Some (record { line = line; rule = rule }) }
+stopped_or (Some rule) journal line later =
+    record { journal = journal; stop = Some (record { line = line; rule = rule }) }
 
 -- the play of these lines after a journal
 abbrev pub played_from : Places → Journal → List SchedLine → Played
@@ -89,10 +90,12 @@ pub record IsFrontOf (front whole : Journal) : Type 0 where
   pub opening : front.opening ≡ whole.opening
   pub entries : (later : List Entry) × (whole.entries ≡ front.entries ++ later)
 
--- the journal after a play: that of the whole play, to its end or to the line that is named; or a front of it where memory was refused
+-- the journal after a play: that of the whole play, to its end or to the line that is named; or a front of it where
+-- memory was refused
 abbrev pub IsPlay : Result (Unit {0}) PlayError → Journal → Played → Type 0
 IsPlay (Ok nothing) after whole = whole ≡ record { journal = after; stop = None }
-IsPlay (Err (NotEnabled line rule)) after whole = whole ≡ record { journal = after; stop = Some (record { line = line; rule = rule }) }
+IsPlay (Err (NotEnabled line rule)) after whole =
+    whole ≡ record { journal = after; stop = Some (record { line = line; rule = rule }) }
 IsPlay (Err NoMemory) after whole = IsFrontOf after whole.journal
 
 -- what comes of one line: its event was added, and its place is known; or it is not enabled, or memory was refused, and

@@ -1,18 +1,19 @@
 -- How the program ends on its words and its input: the status, the journal that it keeps, and what it writes.
-use Rattle.std.specs.Prelude.{◌≡◌, ℕ, ◌≤◌, ◌⊎◌, Bool, false, List, [], ◌∷◌, ◌++◌, length, take, Option, None, Some, Result, Ok, Err, nat_lt, codes, if◌then◌else◌}
+use Rattle.std.specs.Prelude.{◌≡◌, ℕ, ◌<◌, ◌≤◌, ◌⊎◌, Bool, false, List, [], ◌∷◌, ◌++◌, length, take, Option, None, Some, Result, Ok, Err, nat_lt, codes, if◌then◌else◌}
 use Rattle.std.specs.Fmt.{decimal}
 use Rattle.std.specs.List.{concat}
 use Rattle.std.specs.Str.{bytes_eq}
 use Rattle.base_ids.specs.Rules.{event_rule_word, limit_word}
 use Rattle.base_ids.specs.declared.rules.LimitName.TheVariants.{Input}
-use Rattle.fault_io.specs.Counts.{Rose}
-use Rattle.fault_io.specs.Held.{after_held, AddsPart}
+use Rattle.fault_io.specs.Counts.{Rose, SinkAccount, SourceAccount}
+use Rattle.fault_io.specs.Given.{TakesBytes}
+use Rattle.fault_io.specs.Written.{content_after, AddsPart}
 use Rattle.fault_io.specs.declared.reading.ReadError.{ReadError}
 use Rattle.fault_io.specs.declared.reading.ReadError.TheVariants.{ReadFault as SourceFault, TooLong, NoMemory as ReadNoMemory}
 use Rattle.path_history.specs.Legal.{opening_journal}
 use Rattle.path_history.specs.declared.data.Journal.{Journal}
 use Rattle.path_history.specs.declared.data.Opening.{Opening}
-use Rattle.cluster_cli.specs.Play.{Played, Stop, played}
+use Rattle.cluster_cli.specs.Play.{IsFrontOf, Played, Stop, played}
 use Rattle.cluster_cli.specs.Report.{reply_lines, report}
 use Rattle.cluster_cli.specs.Status.{status_number}
 use Rattle.cluster_cli.specs.Text.{reading}
@@ -58,7 +59,8 @@ refused_line line = codes "refused line " ++ (decimal line ++ codes " NotBuilt\n
 
 -- the event of a line is not enabled
 abbrev pub not_enabled_line : Stop → List ℕ
-not_enabled_line stop = codes "not-enabled line " ++ (decimal stop.line ++ (codes " " ++ (event_rule_word stop.rule ++ codes "\n")))
+not_enabled_line stop =
+    codes "not-enabled line " ++ (decimal stop.line ++ (codes " " ++ (event_rule_word stop.rule ++ codes "\n")))
 
 -- the lines of the replies so far, and a last line
 abbrev pub stopped_lines : Journal → Stop → List (List ℕ)
@@ -67,7 +69,8 @@ stopped_lines journal stop = reply_lines journal ++ not_enabled_line stop ∷ []
 -- the whole report, or the replies before the event that is not enabled
 abbrev pub ending_at : Journal → Option Stop → Ending
 ending_at journal None = record { status = Done; journal = journal; bytes = concat (report journal) }
-ending_at journal (Some stop) = record { status = NotEnabled; journal = journal; bytes = concat (stopped_lines journal stop) }
+ending_at journal (Some stop) =
+    record { status = NotEnabled; journal = journal; bytes = concat (stopped_lines journal stop) }
 
 abbrev pub play_ending : Played → Ending
 play_ending whole = ending_at whole.journal whole.stop
@@ -92,49 +95,69 @@ is_play (word ∷ other ∷ words) = false
 
 -- ---- what came of it
 
--- some of the bytes, from the first on, were added to what a sink holds, or all or none of them
-abbrev pub AddsFront : Option (List ℕ) → Option (List ℕ) → List ℕ → Type 0
-AddsFront held_before held_after bytes = (n : ℕ) × (n ≤ length bytes) × (held_after ≡ after_held held_before (take n bytes))
+-- some of the bytes, from the first on, were added to a sink's content, or all or none of them
+abbrev pub AddsFront : SinkAccount → SinkAccount → List ℕ → Type 0
+AddsFront before after bytes =
+    (n : ℕ) × (n ≤ length bytes) × (after.content ≡ content_after before.content (take n bytes))
 
--- the call ended as it was to
-pub record IsWhole (ending : Ending) (outcome : Outcome) (held_before held_after : Option (List ℕ)) : Type 0 where
+-- the call ended as it was to, and no call of the sink failed
+pub record IsWhole (ending : Ending) (outcome : Outcome) (before after : SinkAccount) : Type 0 where
   pub status : outcome.status ≡ status_number ending.status
   pub journal : outcome.journal ≡ ending.journal
-  pub written : held_after ≡ after_held held_before ending.bytes
+  pub written : after.content ≡ content_after before.content ending.bytes
+  pub quiet : after.faults ≡ before.faults
 
 -- the sink failed before all was written
-pub record IsCut (ending : Ending) (outcome : Outcome) (held_before held_after : Option (List ℕ)) (faults_before faults_after : ℕ) : Type 0 where
+pub record IsCut (ending : Ending) (outcome : Outcome) (before after : SinkAccount) : Type 0 where
   pub status : outcome.status ≡ status_number WriteFault
   pub journal : outcome.journal ≡ ending.journal
-  pub written : AddsPart held_before held_after ending.bytes
-  pub cause : Rose faults_before faults_after
+  pub written : AddsPart before after ending.bytes
+  pub cause : Rose before.faults after.faults
 
--- memory was refused, before or while it was written
-pub record IsStarved (ending : Ending) (outcome : Outcome) (held_before held_after : Option (List ℕ)) : Type 0 where
+-- a journal has some of the first entries of another, or no opening was reached
+abbrev pub IsReached : Journal → Journal → Type 0
+IsReached journal whole = (journal ≡ no_journal) ⊎ IsFrontOf journal whole
+
+-- memory was refused, before or while it was written, and no call of the sink failed
+pub record IsStarved (ending : Ending) (outcome : Outcome) (before after : SinkAccount) : Type 0 where
   pub status : outcome.status ≡ status_number NoMemory
-  pub written : AddsFront held_before held_after ending.bytes
+  pub journal : IsReached outcome.journal ending.journal
+  pub written : AddsFront before after ending.bytes
+  pub quiet : after.faults ≡ before.faults
 
--- what came of a call that was to end so, and of the sink that it wrote to
-abbrev pub CameTo : Ending → Outcome → Option (List ℕ) → Option (List ℕ) → ℕ → ℕ → Type 0
-CameTo ending outcome held_before held_after faults_before faults_after =
-    IsWhole ending outcome held_before held_after
-    ⊎ (IsCut ending outcome held_before held_after faults_before faults_after ⊎ IsStarved ending outcome held_before held_after)
+-- what came of a call that takes no memory, and of the sink that it wrote to
+abbrev pub IsSaid : Ending → Outcome → SinkAccount → SinkAccount → Type 0
+IsSaid ending outcome before after = IsWhole ending outcome before after ⊎ IsCut ending outcome before after
 
--- what came of a call that reads: what was to come of the text; or a read fault, where the source's count of faults rose
-abbrev pub Answers : Ending → Outcome → ℕ → ℕ → Option (List ℕ) → Option (List ℕ) → ℕ → ℕ → Type 0
-Answers ending outcome read_faults_before read_faults_after held_before held_after faults_before faults_after =
-    CameTo ending outcome held_before held_after faults_before faults_after
-    ⊎ (Rose read_faults_before read_faults_after × CameTo read_fault_ending outcome held_before held_after faults_before faults_after)
+-- what came of a call that may want memory
+abbrev pub CameTo : Ending → Outcome → SinkAccount → SinkAccount → Type 0
+CameTo ending outcome before after = IsSaid ending outcome before after ⊎ IsStarved ending outcome before after
+
+-- no call of a source failed
+abbrev pub NoFault : SourceAccount → SourceAccount → Type 0
+NoFault before after = after.faults ≡ before.faults
+
+-- what came of a call that reads: no call of the source failed, and what was to come of the text came; or one failed,
+-- the source's count of faults rose, and that is said
+abbrev pub Answers : Ending → Outcome → SourceAccount → SourceAccount → SinkAccount → SinkAccount → Type 0
+Answers ending outcome source_before source_after before after =
+    (NoFault source_before source_after × CameTo ending outcome before after)
+    ⊎ (Rose source_before.faults source_after.faults × IsSaid read_fault_ending outcome before after)
 
 -- how the program is to end on its words and a text
 abbrev pub command_ending : List (List ℕ) → List ℕ → Ending
 command_ending words text = if is_play words then ending_of text else usage_ending
 
+-- just these bytes were taken, and what was to come of them came; where they are more than are read no memory is asked
+-- for
+pub record IsAnswer (taken : List ℕ) (ending : Ending) (outcome : Outcome) (source_before source_after : SourceAccount)
+    (before after : SinkAccount) : Type 0 where
+  pub bytes : TakesBytes source_before source_after taken
+  pub answer : Answers ending outcome source_before source_after before after
+  pub over : input_limit < length taken → IsSaid limit_ending outcome before after
+
 -- what came of a source that was not read whole: memory was refused before anything was written, or what came was told
-abbrev pub CameToError : ReadError → Outcome → Option (List ℕ) → Option (List ℕ) → ℕ → ℕ → Type 0
-CameToError SourceFault outcome held_before held_after faults_before faults_after =
-    CameTo read_fault_ending outcome held_before held_after faults_before faults_after
-CameToError TooLong outcome held_before held_after faults_before faults_after =
-    CameTo limit_ending outcome held_before held_after faults_before faults_after
-CameToError ReadNoMemory outcome held_before held_after faults_before faults_after =
-    (outcome.status ≡ status_number NoMemory) × (held_after ≡ held_before)
+abbrev pub CameToError : ReadError → Outcome → SinkAccount → SinkAccount → Type 0
+CameToError SourceFault outcome before after = IsSaid read_fault_ending outcome before after
+CameToError TooLong outcome before after = IsSaid limit_ending outcome before after
+CameToError ReadNoMemory outcome before after = (outcome.status ≡ status_number NoMemory) × (after ≡ before)

@@ -2,6 +2,7 @@
 #![tactic(auto)]
 
 mod play;
+mod process;
 mod program;
 mod report;
 mod schedule;
@@ -9,7 +10,8 @@ mod status;
 mod text;
 
 use base_ids::{Items, NoMemory};
-use fault_io::{StdSink, StdSource};
+use fault_io::{CountedReader, CountedWriter, StdSink, StdSource};
+use process::{exit_code, words_after_name};
 use program::{Words, cluster_main};
 use status::Status;
 use std::env;
@@ -19,26 +21,21 @@ use std::rt::Env;
 
 /// The words after the program's name. Words that are no text are none.
 fn read_words<R: Env + AllocGlobal>(rt: &R) -> Result<Words, NoMemory> {
-    let mut words = Items::new(rt.alloc());
-    let args = match env::args(rt) {
-        Ok(args) => args,
-        Err(error) if error.kind() == ErrorKind::InvalidData => return Ok(words),
-        Err(_) => return Err(NoMemory),
-    };
-    for word in args.skip(1) {
-        words.push(Items::from_vec(word.into_bytes()))?;
+    match env::args(rt) {
+        Ok(args) => words_after_name(rt.alloc(), args),
+        Err(error) if error.kind() == ErrorKind::InvalidData => Ok(Items::new(rt.alloc())),
+        Err(_) => Err(NoMemory),
     }
-    Ok(words)
 }
 
 fn main(rt: HostRuntime) -> ExitCode {
     let Ok(words) = read_words(&rt) else {
         return ExitCode::from(Status::NoMemory.number());
     };
-    let mut source = StdSource::new(rt.stdin());
-    let mut sink = StdSink::new(rt.stdout());
+    let mut source = StdSource::new(CountedReader::new(rt.stdin()));
+    let mut sink = StdSink::new(CountedWriter::new(rt.stdout()));
     let outcome = cluster_main(rt.alloc(), &words, &mut source, &mut sink);
-    ExitCode::from(outcome.status)
+    exit_code(&outcome)
 }
 
 #[cfg(test)]

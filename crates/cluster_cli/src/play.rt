@@ -127,9 +127,9 @@ fn play_line(
     }
 }
 
-/// Plays the schedule, from its first line on, on a machine that nothing has happened to. `NotEnabled` comes exactly where
-/// the play stops at an event that is not enabled, and names its line and the first rule that it breaks; the events
-/// before it stand in the machine's journal. At `NoMemory` some of the first events do.
+/// Plays the schedule, from its first line on, on a machine that nothing has happened to. `NotEnabled` comes exactly
+/// where the play stops at an event that is not enabled, and names its line and the first rule that it breaks; the
+/// events before it stand in the machine's journal. At `NoMemory` some of the first events do.
 pub fn play(alloc: Global, schedule: &Schedule, machine: &mut Machine) -> Result<(), PlayError>
     requires playable { IsPlayable schedule.now }
     requires fresh { machine.old ≡ opening_journal schedule.now.opening }

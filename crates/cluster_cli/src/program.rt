@@ -2,12 +2,11 @@
 ghost use Rattle.std.specs.Prelude.{◌≡◌, ℕ, ◌≤◌, List, length, IfSome, IfOk, OnOk, OnErr, false};
 ghost use Rattle.std.specs.List.{concat};
 ghost use Rattle.fault_io.specs.Counts.{Rose};
-ghost use Rattle.fault_io.specs.Given.{TakesBytes};
-ghost use Rattle.fault_io.specs.Held.{after_held, AddsPart};
+ghost use Rattle.fault_io.specs.Written.{content_after, AddsPart};
 ghost use Rattle.path_history.specs.Legal.{IsLegalRun, opening_journal};
 ghost use Rattle.path_law.specs.Headline.{IsHeadline};
-ghost use Rattle.cluster_cli.specs.Play.{Stop, played};
-ghost use Rattle.cluster_cli.specs.Program.{no_journal, refused_line, stopped_lines, play_ending, reading_ending, ending_of, command_ending, usage_ending, is_play, CameTo, CameToError, Answers};
+ghost use Rattle.cluster_cli.specs.Play.{IsFrontOf, Stop, played};
+ghost use Rattle.cluster_cli.specs.Program.{no_journal, refused_line, stopped_lines, play_ending, reading_ending, ending_of, command_ending, usage_ending, is_play, IsSaid, CameTo, CameToError, NoFault, Answers, IsAnswer};
 ghost use Rattle.cluster_cli.specs.Report.{report};
 ghost use Rattle.cluster_cli.specs.Schedule.{IsPlayable};
 ghost use Rattle.cluster_cli.specs.Status.{status_number, status_after};
@@ -81,9 +80,10 @@ fn ended(status: Status, journal: Journal, written: Result<(), WriteFault>) -> O
 
 /// Writes one line, and ends so.
 fn say<K: Sink>(sink: &mut K, line: &[u8], status: Status, journal: Journal) -> Outcome
-    ensures came { CameTo (record { status = status; journal = journal; bytes = line.now }) result (K.held sink.old) (K.held sink.new) (K.faults sink.old) (K.faults sink.new) }
+    ensures came { IsSaid (record { status = status; journal = journal; bytes = line.now }) result
+        (K.account sink.old) (K.account sink.new) }
     ensures journal { result.journal ≡ journal }
-    ensures later { K.faults sink.old ≤ K.faults sink.new }
+    ensures later { (K.account sink.old).faults ≤ (K.account sink.new).faults }
 {
     let written = write_all(sink, line);
     ended(status, journal, written)
@@ -91,10 +91,12 @@ fn say<K: Sink>(sink: &mut K, line: &[u8], status: Status, journal: Journal) -> 
 
 /// Writes the lines one after the other.
 fn write_lines<K: Sink>(sink: &mut K, lines: &[Line]) -> Result<(), WriteFault>
-    ensures whole { OnOk result (K.held sink.new ≡ after_held (K.held sink.old) (concat lines.now)) }
-    ensures part { OnErr result (AddsPart (K.held sink.old) (K.held sink.new) (concat lines.now)) }
-    ensures later { K.faults sink.old ≤ K.faults sink.new }
-    ensures cause { OnErr result (Rose (K.faults sink.old) (K.faults sink.new)) }
+    ensures whole { OnOk result ((K.account sink.new).content
+        ≡ content_after (K.account sink.old).content (concat lines.now)) }
+    ensures part { OnErr result (AddsPart (K.account sink.old) (K.account sink.new) (concat lines.now)) }
+    ensures later { (K.account sink.old).faults ≤ (K.account sink.new).faults }
+    ensures cause { OnErr result (Rose (K.account sink.old).faults (K.account sink.new).faults) }
+    ensures quiet { OnOk result ((K.account sink.new).faults ≡ (K.account sink.old).faults) }
 {
     for line in lines {
         write_all(sink, line.as_slice())?;
@@ -104,9 +106,10 @@ fn write_lines<K: Sink>(sink: &mut K, lines: &[Line]) -> Result<(), WriteFault>
 
 /// Writes the lines, and ends so.
 fn finish<K: Sink>(sink: &mut K, lines: &[Line], status: Status, journal: Journal) -> Outcome
-    ensures came { CameTo (record { status = status; journal = journal; bytes = concat lines.now }) result (K.held sink.old) (K.held sink.new) (K.faults sink.old) (K.faults sink.new) }
+    ensures came { IsSaid (record { status = status; journal = journal; bytes = concat lines.now }) result
+        (K.account sink.old) (K.account sink.new) }
     ensures journal { result.journal ≡ journal }
-    ensures later { K.faults sink.old ≤ K.faults sink.new }
+    ensures later { (K.account sink.old).faults ≤ (K.account sink.new).faults }
 {
     let written = write_lines(sink, lines);
     ended(status, journal, written)
@@ -154,9 +157,10 @@ fn machine_of(alloc: Global, schedule: &Schedule) -> Result<Machine, NoMemory>
 
 /// Writes the report of a play to the schedule's end.
 fn report_whole<K: Sink>(alloc: Global, journal: Journal, sink: &mut K) -> Outcome
-    ensures came { CameTo (record { status = Status.Done; journal = journal; bytes = concat (report journal) }) result (K.held sink.old) (K.held sink.new) (K.faults sink.old) (K.faults sink.new) }
+    ensures came { CameTo (record { status = Status.Done; journal = journal; bytes = concat (report journal) }) result
+        (K.account sink.old) (K.account sink.new) }
     ensures journal { result.journal ≡ journal }
-    ensures later { K.faults sink.old ≤ K.faults sink.new }
+    ensures later { (K.account sink.old).faults ≤ (K.account sink.new).faults }
 {
     match report::lines(alloc, &journal) {
         Ok(lines) => finish(sink, lines.as_slice(), Status::Done, journal),
@@ -172,9 +176,11 @@ fn report_stop<K: Sink>(
     rule: EventRule,
     sink: &mut K,
 ) -> Outcome
-    ensures came { CameTo (record { status = Status.NotEnabled; journal = journal; bytes = concat (stopped_lines journal (record { line = line; rule = rule })) }) result (K.held sink.old) (K.held sink.new) (K.faults sink.old) (K.faults sink.new) }
+    ensures came { let bytes = concat (stopped_lines journal (record { line = line; rule = rule })) in
+        CameTo (record { status = Status.NotEnabled; journal = journal; bytes = bytes }) result
+        (K.account sink.old) (K.account sink.new) }
     ensures journal { result.journal ≡ journal }
-    ensures later { K.faults sink.old ≤ K.faults sink.new }
+    ensures later { (K.account sink.old).faults ≤ (K.account sink.new).faults }
 {
     match stopped_lines(alloc, &journal, line, rule) {
         Ok(lines) => finish(sink, lines.as_slice(), Status::NotEnabled, journal),
@@ -184,9 +190,9 @@ fn report_stop<K: Sink>(
 
 /// Writes where a text is refused.
 fn refuse<K: Sink>(alloc: Global, line: u64, rule: TextRule, sink: &mut K) -> Outcome
-    ensures came { CameTo (reading_ending (Err line)) result (K.held sink.old) (K.held sink.new) (K.faults sink.old) (K.faults sink.new) }
+    ensures came { CameTo (reading_ending (Err line)) result (K.account sink.old) (K.account sink.new) }
     ensures journal { result.journal ≡ no_journal }
-    ensures later { K.faults sink.old ≤ K.faults sink.new }
+    ensures later { (K.account sink.old).faults ≤ (K.account sink.new).faults }
 {
     match refused_line(alloc, line, rule) {
         Ok(text) => say(sink, text.as_slice(), Status::Refused, no_journal(alloc)),
@@ -194,16 +200,21 @@ fn refuse<K: Sink>(alloc: Global, line: u64, rule: TextRule, sink: &mut K) -> Ou
     }
 }
 
-/// Plays a schedule and writes what came of it.
-fn play_schedule<K: Sink>(alloc: Global, schedule: &Schedule, sink: &mut K) -> Outcome
-    requires { IsPlayable schedule.now }
-    ensures came { CameTo (play_ending (played schedule.now)) result (K.held sink.old) (K.held sink.new) (K.faults sink.old) (K.faults sink.new) }
+/// Plays a schedule on a machine that nothing has happened to, and writes what came of it. At each status the journal has
+/// some of the first entries of the play.
+fn play_on<K: Sink>(
+    alloc: Global,
+    schedule: &Schedule,
+    mut machine: Machine,
+    sink: &mut K,
+) -> Outcome
+    requires playable { IsPlayable schedule.now }
+    requires fresh { machine ≡ opening_journal schedule.now.opening }
+    ensures came { CameTo (play_ending (played schedule.now)) result (K.account sink.old) (K.account sink.new) }
+    ensures front { IsFrontOf result.journal (played schedule.now).journal }
     ensures legal { IsLegalRun result.journal }
-    ensures later { K.faults sink.old ≤ K.faults sink.new }
+    ensures later { (K.account sink.old).faults ≤ (K.account sink.new).faults }
 {
-    let Ok(mut machine) = machine_of(alloc, schedule) else {
-        return starved(no_journal(alloc));
-    };
     match play(alloc, schedule, &mut machine) {
         Ok(()) => report_whole(alloc, machine.into_journal(), sink),
         Err(PlayError::NotEnabled { line, rule }) => {
@@ -213,11 +224,24 @@ fn play_schedule<K: Sink>(alloc: Global, schedule: &Schedule, sink: &mut K) -> O
     }
 }
 
+/// Plays a schedule and writes what came of it.
+fn play_schedule<K: Sink>(alloc: Global, schedule: &Schedule, sink: &mut K) -> Outcome
+    requires { IsPlayable schedule.now }
+    ensures came { CameTo (play_ending (played schedule.now)) result (K.account sink.old) (K.account sink.new) }
+    ensures legal { IsLegalRun result.journal }
+    ensures later { (K.account sink.old).faults ≤ (K.account sink.new).faults }
+{
+    match machine_of(alloc, schedule) {
+        Ok(machine) => play_on(alloc, schedule, machine, sink),
+        Err(NoMemory) => starved(no_journal(alloc)),
+    }
+}
+
 /// Reads a text, plays its schedule and writes what came of it.
 fn play_text<K: Sink>(alloc: Global, bytes: &[u8], sink: &mut K) -> Outcome
-    ensures came { CameTo (reading_ending (reading bytes.now)) result (K.held sink.old) (K.held sink.new) (K.faults sink.old) (K.faults sink.new) }
+    ensures came { CameTo (reading_ending (reading bytes.now)) result (K.account sink.old) (K.account sink.new) }
     ensures legal { IsLegalRun result.journal }
-    ensures later { K.faults sink.old ≤ K.faults sink.new }
+    ensures later { (K.account sink.old).faults ≤ (K.account sink.new).faults }
 {
     match parse(alloc, bytes) {
         Ok(schedule) => play_schedule(alloc, &schedule, sink),
@@ -228,9 +252,9 @@ fn play_text<K: Sink>(alloc: Global, bytes: &[u8], sink: &mut K) -> Outcome
 
 /// Tells why a source was not read whole.
 fn not_read<K: Sink>(alloc: Global, error: ReadError, sink: &mut K) -> Outcome
-    ensures came { CameToError error result (K.held sink.old) (K.held sink.new) (K.faults sink.old) (K.faults sink.new) }
+    ensures came { CameToError error result (K.account sink.old) (K.account sink.new) }
     ensures journal { result.journal ≡ no_journal }
-    ensures later { K.faults sink.old ≤ K.faults sink.new }
+    ensures later { (K.account sink.old).faults ≤ (K.account sink.new).faults }
 {
     let journal = no_journal(alloc);
     match error {
@@ -240,31 +264,35 @@ fn not_read<K: Sink>(alloc: Global, error: ReadError, sink: &mut K) -> Outcome
     }
 }
 
-/// Reads a schedule, plays it and writes its report. How it ends is a function of the text, which is what the source tells
-/// as its content, or else the bytes that it gives: with status 0 and the report; 3 and the line at fault; 4, the replies so
-/// far, and the line whose event is not enabled with the first rule that it breaks; or 7 where more than 4194304 bytes
-/// come. A read fault gives 5, and wins over what the text says; a failed write gives 6 and leaves a part of what was to be
-/// written; want of memory may give 8 at any place, and then some of the first bytes were written.
+/// Reads a schedule, plays it and writes its report. How it ends is a function of the text, which is what the source
+/// tells as its content, or else the bytes that it gives: with status 0 and the report; 3 and the line at fault; 4,
+/// the replies so far, and the line whose event is not enabled with the first rule that it breaks; or 7 where more
+/// than 4194304 bytes come. A read fault gives 5, and wins over what the text says; a failed write gives 6 and leaves
+/// a part of what was to be written. Want of memory may give 8 while the text is read or played, and then some of the
+/// first bytes were written, and the journal has some of the first entries of the play.
 pub fn play_main<S: Source, K: Sink>(alloc: Global, source: &mut S, sink: &mut K) -> Outcome
-    // The journal that is kept is a legal run. In it a read returns none or a cell that a write of its key began with, and nothing
-    // below a write of its key that was acknowledged before it began; a request is stale only below fences of as many hosts as
-    // leave too few, and given up only where fewer replicas than required had answered; and what clients saw is a run of the
-    // register machine.
+    // The journal that is kept is a legal run. In it a read returns none or a cell that a write of its key began with,
+    // and nothing below a write of its key that was acknowledged before it began; a request is stale only below fences
+    // of as many hosts as leave too few, and given up only where fewer replicas than required had answered; and what
+    // clients saw is a run of the register machine.
     ensures legal { IsLegalRun result.journal }
     ensures headline { IsHeadline result.journal }
 
     // What was to come of the text came, but for a read fault, a failed write and want of memory.
-    ensures told { IfSome (S.left source.old) (λ text. Answers (ending_of text) result (S.faults source.old) (S.faults source.new) (K.held sink.old) (K.held sink.new) (K.faults sink.old) (K.faults sink.new)) }
-    ensures taken { (taken : List ℕ)
-        × TakesBytes (S.left source.old) (S.given source.old) (S.left source.new) (S.given source.new) taken
-        × Answers (ending_of taken) result (S.faults source.old) (S.faults source.new) (K.held sink.old) (K.held sink.new) (K.faults sink.old) (K.faults sink.new) }
+    ensures told { IfSome (S.account source.old).left (λ text. Answers (ending_of text) result
+        (S.account source.old) (S.account source.new) (K.account sink.old) (K.account sink.new)) }
+    ensures taken { (taken : List ℕ) × IsAnswer taken (ending_of taken) result
+        (S.account source.old) (S.account source.new) (K.account sink.old) (K.account sink.new) }
 
     // What follows of the statuses 0, 5 and 6.
-    ensures report { result.status ≡ 0 → K.held sink.new ≡ after_held (K.held sink.old) (concat (report result.journal)) }
-    ensures read_fault { result.status ≡ 5 → Rose (S.faults source.old) (S.faults source.new) }
-    ensures write_fault { result.status ≡ 6 → Rose (K.faults sink.old) (K.faults sink.new) }
-    ensures read_later { S.faults source.old ≤ S.faults source.new }
-    ensures write_later { K.faults sink.old ≤ K.faults sink.new }
+    ensures report { result.status ≡ 0 →
+        (K.account sink.new).content ≡ content_after (K.account sink.old).content (concat (report result.journal)) }
+    ensures quiet { result.status ≡ 0 → NoFault (S.account source.old) (S.account source.new)
+        × ((K.account sink.new).faults ≡ (K.account sink.old).faults) }
+    ensures read_fault { result.status ≡ 5 → Rose (S.account source.old).faults (S.account source.new).faults }
+    ensures write_fault { result.status ≡ 6 → Rose (K.account sink.old).faults (K.account sink.new).faults }
+    ensures read_later { (S.account source.old).faults ≤ (S.account source.new).faults }
+    ensures write_later { (K.account sink.old).faults ≤ (K.account sink.new).faults }
 {
     match read_all(alloc, source, INPUT_LIMIT) {
         Ok(bytes) => {
@@ -290,37 +318,41 @@ fn is_play(words: &Words) -> bool
     }
 }
 
-/// Does what the words say: `play` is `play_main`, and other words give the usage line and status 2, whatever the source
-/// has; then nothing is read.
+/// Does what the words say: `play` is `play_main`, and other words give the usage line and status 2, whatever the
+/// source has; then nothing is read.
 pub fn cluster_main<S: Source, K: Sink>(
     alloc: Global,
     words: &Words,
     source: &mut S,
     sink: &mut K,
 ) -> Outcome
-    // The journal that is kept is a legal run. In it a read returns none or a cell that a write of its key began with, and nothing
-    // below a write of its key that was acknowledged before it began; a request is stale only below fences of as many hosts as
-    // leave too few, and given up only where fewer replicas than required had answered; and what clients saw is a run of the
-    // register machine.
+    // The journal that is kept is a legal run. In it a read returns none or a cell that a write of its key began with,
+    // and nothing below a write of its key that was acknowledged before it began; a request is stale only below fences
+    // of as many hosts as leave too few, and given up only where fewer replicas than required had answered; and what
+    // clients saw is a run of the register machine.
     ensures legal { IsLegalRun result.journal }
     ensures headline { IsHeadline result.journal }
 
     // Words that are no command give the usage line, and nothing is read.
-    ensures usage { is_play words.now ≡ false → CameTo usage_ending result (K.held sink.old) (K.held sink.new) (K.faults sink.old) (K.faults sink.new) }
-    ensures unread { is_play words.now ≡ false → (S.left source.new ≡ S.left source.old) × (S.given source.new ≡ S.given source.old) × (S.faults source.new ≡ S.faults source.old) }
+    ensures usage { is_play words.now ≡ false →
+        IsSaid usage_ending result (K.account sink.old) (K.account sink.new) }
+    ensures unread { is_play words.now ≡ false → S.account source.new ≡ S.account source.old }
 
     // What was to come of the words and the text came, but for a read fault, a failed write and want of memory.
-    ensures told { IfSome (S.left source.old) (λ text. Answers (command_ending words.now text) result (S.faults source.old) (S.faults source.new) (K.held sink.old) (K.held sink.new) (K.faults sink.old) (K.faults sink.new)) }
-    ensures taken { (taken : List ℕ)
-        × TakesBytes (S.left source.old) (S.given source.old) (S.left source.new) (S.given source.new) taken
-        × Answers (command_ending words.now taken) result (S.faults source.old) (S.faults source.new) (K.held sink.old) (K.held sink.new) (K.faults sink.old) (K.faults sink.new) }
+    ensures told { IfSome (S.account source.old).left (λ text. Answers (command_ending words.now text) result
+        (S.account source.old) (S.account source.new) (K.account sink.old) (K.account sink.new)) }
+    ensures taken { (taken : List ℕ) × IsAnswer taken (command_ending words.now taken) result
+        (S.account source.old) (S.account source.new) (K.account sink.old) (K.account sink.new) }
 
     // What follows of the statuses 0, 5 and 6.
-    ensures report { result.status ≡ 0 → K.held sink.new ≡ after_held (K.held sink.old) (concat (report result.journal)) }
-    ensures read_fault { result.status ≡ 5 → Rose (S.faults source.old) (S.faults source.new) }
-    ensures write_fault { result.status ≡ 6 → Rose (K.faults sink.old) (K.faults sink.new) }
-    ensures read_later { S.faults source.old ≤ S.faults source.new }
-    ensures write_later { K.faults sink.old ≤ K.faults sink.new }
+    ensures report { result.status ≡ 0 →
+        (K.account sink.new).content ≡ content_after (K.account sink.old).content (concat (report result.journal)) }
+    ensures quiet { result.status ≡ 0 → NoFault (S.account source.old) (S.account source.new)
+        × ((K.account sink.new).faults ≡ (K.account sink.old).faults) }
+    ensures read_fault { result.status ≡ 5 → Rose (S.account source.old).faults (S.account source.new).faults }
+    ensures write_fault { result.status ≡ 6 → Rose (K.account sink.old).faults (K.account sink.new).faults }
+    ensures read_later { (S.account source.old).faults ≤ (S.account source.new).faults }
+    ensures write_later { (K.account sink.old).faults ≤ (K.account sink.new).faults }
 {
     if is_play(words) {
         play_main(alloc, source, sink)

@@ -1,5 +1,6 @@
 ghost use Rattle.std.specs.Prelude.{◌<◌};
 
+use crate::process::{exit_code, words_after_name};
 use crate::program::{Words, cluster_main, play_main};
 use crate::report;
 use base_ids::{HostId, Items, LaneId, MsgRef, NoMemory, OpId, ReplicaList, TableId, Version};
@@ -9,7 +10,7 @@ use path_history::{Entry, Event, Journal, Message, Opening, Output, OutputList};
 use quorum_ops::{Answer, ReadAsk, Reply, Said, WriteAsk};
 use stage_graph::Kind;
 use std::alloc::Global;
-use std::process::Abort;
+use std::process::{Abort, ExitCode};
 use std::test::Fail;
 
 /// A write that two of three replicas acknowledge, and a read that finds it.
@@ -138,8 +139,8 @@ fn each_status_comes_with_its_text(rt: HostRuntime) -> Result<(), Fail> {
     .map_err(Fail::from)
 }
 
-/// Plays `SCHEDULE` from a source in pieces of this size, of which one call fails, to a sink of which one call fails, and
-/// compares the status; what was written is a front of what was to be written.
+/// Plays `SCHEDULE` from a source in pieces of this size, of which one call fails, to a sink of which one call fails,
+/// and compares the status; what was written is a front of what was to be written.
 fn check_front(
     rt: &impl Abort,
     alloc: Global,
@@ -294,5 +295,31 @@ reply 3.1 1 v2 write stale 2 fence 4\nreply 3.1 1 v2 read timeout 1 of 2\n\
 reply 3.1 1 v2 write notable\nreply 3.1 1 v2 read notmember\n\
 end replies 8 log 0 version 1 fence 1\n";
     assert_eq!(rt; text.as_slice(), wanted.as_slice());
+    Ok(())
+}
+
+#[test]
+fn words_and_statuses_are_handed_on(rt: HostRuntime) -> Result<(), Fail> {
+    let alloc = rt.alloc();
+    let args = vec![in alloc;
+        "program".to_string(alloc)?,
+        "play".to_string(alloc)?,
+        "more".to_string(alloc)?,
+    ]?;
+    let words = words_after_name(alloc, args.into_iter())?;
+    assert_eq!(rt; words.as_slice().len(), 2);
+    assert_eq!(rt; words.as_slice()[0].as_slice(), b"play".as_slice());
+    assert_eq!(rt; words.as_slice()[1].as_slice(), b"more".as_slice());
+    assert_eq!(rt;
+        words_after_name(alloc, Vec::new(alloc).into_iter())?
+            .as_slice()
+            .len(),
+        0
+    );
+    // The words name no command, so the process ends with status 2.
+    let mut source = source(alloc, SCHEDULE, 0)?;
+    let mut sink = MemorySink::new(alloc, 64, 64, Vec::new(alloc))?;
+    let outcome = cluster_main(alloc, &words, &mut source, &mut sink);
+    assert_eq!(rt; exit_code(&outcome), ExitCode::from(2));
     Ok(())
 }

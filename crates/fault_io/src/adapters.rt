@@ -16,8 +16,8 @@ pub trait In {
     fn failures(&self) -> u64
         ensures { result ≡ (account self.now).failures };
 
-    /// Reads once: so many bytes were given, which are the first ones of the buffer, or the read failed and gave nothing.
-    /// No byte for a buffer that has room says that nothing is left.
+    /// Reads once: so many bytes were given, which are the first ones of the buffer, or the read failed and gave
+    /// nothing. No byte for a buffer that has room says that nothing is left.
     fn read(&mut self, buf: &mut [u8]) -> Option<usize>
         ensures room { IfSome result (λ n. n ≤ length buf.new) }
         ensures bytes { Consumes (account self.old).remaining (account self.new).remaining (bytes_read result buf.new) }
@@ -25,8 +25,8 @@ pub trait In {
         ensures failed { (account self.new).failures ≡ failures_after (account self.old).failures result };
 }
 
-/// A writer that counts the bytes that were written, those of them that were flushed, and its failures. This trait is the
-/// project's own: what std says of a writer does not tell what was flushed, nor whether a call failed.
+/// A writer that counts the bytes that were written, those of them that were flushed, and its failures. This trait is
+/// the project's own: what std says of a writer does not tell what was flushed, nor whether a call failed.
 pub trait Out {
     // What is told of the writer: the bytes that it holds, where they are known, and its counts.
     ghost account: { Self → OutAccount };
@@ -35,11 +35,13 @@ pub trait Out {
     fn failures(&self) -> u64
         ensures { result ≡ (account self.now).failures };
 
-    /// Writes some of the piece, from its first byte on and at least one byte if there is one, or fails and writes nothing.
+    /// Writes some of the piece, from its first byte on and at least one byte if there is one, or fails and writes
+    /// nothing.
     fn write(&mut self, piece: &[u8]) -> Option<usize>
         ensures room { IfSome result (λ n. (n ≤ length piece.now) × (min 1 (length piece.now) ≤ n)) }
         ensures bytes { Appends (account self.old).contents (account self.new).contents (bytes_read result piece.now) }
-        ensures count { (account self.new).written ≡ raised_by (account self.old).written (length (bytes_read result piece.now)) }
+        ensures count { (account self.new).written
+            ≡ raised_by (account self.old).written (length (bytes_read result piece.now)) }
         ensures flushed { (account self.new).flushed ≡ (account self.old).flushed }
         ensures failed { (account self.new).failures ≡ failures_after (account self.old).failures result };
 
@@ -61,8 +63,8 @@ fn read_once<R: Read>(reader: &mut R, buf: &mut [u8]) -> Option<usize>
     reader.read(buf).ok()
 }
 
-/// Writes once to a writer of std. That it is asked just once, and that `None` comes where that write failed, is trusted,
-/// as for a read.
+/// Writes once to a writer of std. That it is asked just once, and that `None` comes where that write failed, is
+/// trusted, as for a read.
 fn write_once<W: Write>(writer: &mut W, piece: &[u8]) -> Option<usize>
     ensures room { IfSome result (λ n. n ≤ length piece.now) }
     ensures bytes { Appends (W.contents writer.old) (W.contents writer.new) (bytes_read result piece.now) }
@@ -70,7 +72,8 @@ fn write_once<W: Write>(writer: &mut W, piece: &[u8]) -> Option<usize>
     writer.write(piece).ok()
 }
 
-/// Flushes a writer of std once. That it is flushed, and that `false` comes where that failed, is trusted, as for a read.
+/// Flushes a writer of std once. That it is flushed, and that `false` comes where that failed, is trusted, as for a
+/// read.
 fn flush_once<W: Write>(writer: &mut W) -> bool
     ensures { Keeps (W.contents writer.old) (W.contents writer.new) }
 {

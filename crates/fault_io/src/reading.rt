@@ -19,9 +19,9 @@ pub enum Taken {
 /// Where bytes come from: a file, a terminal or a list in memory, each call of which may fail. This trait is the
 /// project's own.
 ///
-/// A source has a content, which it may tell or not, and keeps three counts that stop at 2^64 - 1: of its calls, of those
-/// that failed, and of the bytes that were given. A call fails exactly where it raises the count of failures; a count
-/// that stands at its last value counts as raised.
+/// A source has a content, which it may tell or not, and keeps three counts that stop at 2^64 - 1: of its calls, of
+/// those that failed, and of the bytes that were given. A call fails exactly where it raises the count of failures; a
+/// count that stands at its last value counts as raised.
 pub trait Source {
     // What is told of the source: what is left, and its counts.
     ghost account: { Self → SourceAccount };
@@ -34,7 +34,8 @@ pub trait Source {
         ensures end { IsEnd result (length buf.old) → IfSome (account self.old).left (λ bytes. bytes ≡ []) }
 
         // The counts of bytes, of calls and of faults.
-        ensures given { (account self.new).given ≡ raised_by (account self.old).given (length (bytes_taken result buf.new)) }
+        ensures given { (account self.new).given
+            ≡ raised_by (account self.old).given (length (bytes_taken result buf.new)) }
         ensures called { (account self.new).calls ≡ raised_by (account self.old).calls 1 }
         ensures later { (account self.old).faults ≤ (account self.new).faults }
         ensures cause { result ≡ Taken.Failed → Rose (account self.old).faults (account self.new).faults }
@@ -58,10 +59,10 @@ pub enum ReadError {
 /// How many bytes one call of a source is asked for at most.
 const CHUNK: usize = 4096;
 
-/// Reads a source to its end, which is at most `limit` bytes. `TooLong` comes exactly where one byte more than the limit
-/// was taken, `ReadFault` only where the source's count of faults rose, which stands still else, and `NoMemory` where
-/// there was no room for bytes within the limit. There are at most `limit + 1` calls of the source. After an error the
-/// bytes that were taken are gone.
+/// Reads a source to its end, which is at most `limit` bytes. `TooLong` comes exactly where one byte more than the
+/// limit was taken, `ReadFault` only where the source's count of faults rose, which stands still else, and `NoMemory`
+/// where there was no room for bytes within the limit. There are at most `limit + 1` calls of the source. After an
+/// error the bytes that were taken are gone.
 pub fn read_all<S: Source>(
     alloc: Global,
     source: &mut S,
@@ -78,11 +79,13 @@ pub fn read_all<S: Source>(
         × TakesBytes (S.account source.old) (S.account source.new) taken
         × IsStopOf e limit (length taken)) }
     ensures calls { (S.account source.new).calls ≤ raised_by (S.account source.old).calls (limit + 1) }
-    ensures longer { IsErrOf result ReadError.TooLong → IfSome (S.account source.old).left (λ content. limit < length content) }
+    ensures longer { IsErrOf result ReadError.TooLong →
+        IfSome (S.account source.old).left (λ content. limit < length content) }
 
     // The count of faults rises where a call failed, and nowhere else.
     ensures later { (S.account source.old).faults ≤ (S.account source.new).faults }
-    ensures cause { IsErrOf result ReadError.ReadFault → Rose (S.account source.old).faults (S.account source.new).faults }
+    ensures cause { IsErrOf result ReadError.ReadFault →
+        Rose (S.account source.old).faults (S.account source.new).faults }
     ensures quiet { OnOk result ((S.account source.new).faults ≡ (S.account source.old).faults) }
     ensures stopped { IfErr result (λ e. FaultsAtStop e (S.account source.old).faults (S.account source.new).faults) }
 {

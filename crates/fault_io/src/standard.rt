@@ -17,8 +17,8 @@ fn raised_by(count: u64, n: usize) -> u64
     count.saturating_add(n as u64)
 }
 
-/// A real reader as a source, whose faults are the reader's failures. It tells no content. Once the count of failures is
-/// at its last value it reads no more, and each call fails.
+/// A real reader as a source, whose faults are the reader's failures. It tells no content. Once the count of failures
+/// is at its last value it reads no more, and each call fails.
 #[derive(Drop)]
 pub struct StdSource<R> {
     reader: R,
@@ -64,15 +64,18 @@ impl<R: In> Source for StdSource<R> {
         ensures given { self.new.given ≡ raised_by self.old.given (length (bytes_taken result buf.new)) }
         ensures called { self.new.calls ≡ raised_by self.old.calls 1 }
         ensures later { (R.account self.old.reader).failures ≤ (R.account self.new.reader).failures }
-        ensures cause { result ≡ Taken.Failed → Rose (R.account self.old.reader).failures (R.account self.new.reader).failures }
+        ensures cause { result ≡ Taken.Failed →
+            Rose (R.account self.old.reader).failures (R.account self.new.reader).failures }
         ensures quiet { IsQuietTaken result (R.account self.old.reader).failures (R.account self.new.reader).failures }
 
         // What comes of the reader, where its bytes are known.
-        ensures read { Consumes (R.account self.old.reader).remaining (R.account self.new.reader).remaining (bytes_taken result buf.new) }
+        ensures read { Consumes (R.account self.old.reader).remaining (R.account self.new.reader).remaining
+            (bytes_taken result buf.new) }
         ensures read_end { IsEnd result (length buf.old) → IsAtEnd (R.account self.new.reader).remaining }
 
         // The call fails exactly where one read of the reader failed, or the count of failures is at its last value.
-        ensures failed { (R.account self.new.reader).failures ≡ failures_after_next (R.account self.old.reader).failures result }
+        ensures failed { (R.account self.new.reader).failures
+            ≡ failures_after_next (R.account self.old.reader).failures result }
         ensures spent { (R.account self.old.reader).failures ≡ last_count → result ≡ Taken.Failed }
         ensures untouched { (R.account self.old.reader).failures ≡ last_count → self.new.reader ≡ self.old.reader }
     {
@@ -114,14 +117,16 @@ impl<W: Out> Sink for StdSink<W> {
         ensures room { PlacesWithin result (length bytes.now) }
         ensures bytes { not_told ≡ content_after not_told (bytes_placed result bytes.now) }
         ensures later { (W.account self.old.writer).failures ≤ (W.account self.new.writer).failures }
-        ensures cause { result ≡ Placed.Failed → Rose (W.account self.old.writer).failures (W.account self.new.writer).failures }
+        ensures cause { result ≡ Placed.Failed →
+            Rose (W.account self.old.writer).failures (W.account self.new.writer).failures }
         ensures quiet { IsQuietPlaced result (W.account self.old.writer).failures (W.account self.new.writer).failures }
 
         // What goes to the writer: after a piece of which some was taken, all that was written is flushed.
         ensures written { Writes result (W.account self.old.writer) (W.account self.new.writer) bytes.now }
 
         // The call fails exactly where one call of the writer failed, or the count of failures is at its last value.
-        ensures failed { (W.account self.new.writer).failures ≡ failures_after_put (W.account self.old.writer).failures result }
+        ensures failed { (W.account self.new.writer).failures
+            ≡ failures_after_put (W.account self.old.writer).failures result }
         ensures spent { (W.account self.old.writer).failures ≡ last_count → result ≡ Placed.Failed }
         ensures untouched { (W.account self.old.writer).failures ≡ last_count → self.new ≡ self.old }
     {

@@ -1,7 +1,10 @@
 -- A log of commands, the newest first, and the states that it leads through. Commands and states are numbered from
 -- the oldest, so that a longer log changes none of them.
-use Rattle.std.specs.Prelude.{ℕ, ◌==◌, ◌≡◌, ◌+◌, nat_lt, List, [], ◌∷◌, length, Option, Some, None, if◌then◌else◌}
+use Rattle.std.specs.Prelude.{ℕ, ◌==◌, ◌≡◌, ◌<◌, ◌+◌, ◌-◌, ◌^◌, nat_lt, List, [], ◌∷◌, length, Option, Some, None, if◌then◌else◌}
+use Rattle.base_ids.specs.declared.rules.Appended.{Appended}
+use Rattle.base_ids.specs.declared.rules.Appended.TheVariants.{Accepted, Conflict, Illegal}
 use Rattle.topo_state.specs.declared.command.Command.{Command}
+use Rattle.topo_state.specs.declared.command.Rule.{Rule}
 use Rattle.topo_state.specs.State.{Topology}
 use Rattle.topo_state.specs.After.{after}
 use Rattle.topo_state.specs.Rules.{rule, IsFit}
@@ -54,3 +57,23 @@ pub record IsAccepted (state : Topology) (command : Command) : Type 0 where
 abbrev pub IsLegalLog : Topology → List Command → Type 0
 IsLegalLog first [] = Unit {0}
 IsLegalLog first (command ∷ log) = IsAccepted (state_of first log) command × IsLegalLog first log
+
+-- What becomes of a proposal, by the number that was read, the length of the log, and the rule that the command breaks
+-- in the log's state: it is accepted where the log has grown no more since and it breaks none.
+abbrev pub judged : ℕ → Option Rule → Appended Rule
+judged length None = Accepted (length + 1)
+judged length (Some rule) = Illegal rule
+
+abbrev pub outcome_of : ℕ → ℕ → Option Rule → Appended Rule
+outcome_of read length broken = if read == length then judged length broken else Conflict (record { 0 = length })
+
+-- the log after it: one command longer where it was accepted, else as it was
+abbrev pub log_after : CommandLog → Command → Appended Rule → CommandLog
+log_after log command (Accepted index) = record log { commands = command ∷ log.commands }
+log_after log command (Conflict last) = log
+log_after log command (Illegal rule) = log
+
+-- each command was accepted at a version below the greatest one that a number of 64 bits holds
+abbrev pub AreBelowEnd : Topology → List Command → Type 0
+AreBelowEnd first [] = Unit {0}
+AreBelowEnd first (command ∷ log) = ((state_of first log).version.0 < 2 ^ 64 - 1) × AreBelowEnd first log

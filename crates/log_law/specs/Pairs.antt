@@ -39,8 +39,10 @@ pub record HasNoCleanable (tablet : Tablet) (list : List Replica) : Type 0 where
 -- old list again, as the move falls back.
 pub data ReadsGoOn (old : Tablet) (new : Tablet) : Type 0 where
   SameReads : IsAlike (reads_of new) (reads_of old) → ReadsGoOn old new
-  ReadsNew : stage_in old ≡ Some Streaming → stage_in new ≡ Some WriteBothReadNew → IsAlike (reads_of old) (chosen Old old) → IsAlike (reads_of new) (chosen New old) → ReadsGoOn old new
-  ReadsOldAgain : stage_in old ≡ Some WriteBothReadNew → stage_in new ≡ Some FallbackCleanup → IsAlike (reads_of old) (chosen New old) → IsAlike (reads_of new) (chosen Old old) → ReadsGoOn old new
+  ReadsNew : stage_in old ≡ Some Streaming → stage_in new ≡ Some WriteBothReadNew →
+      IsAlike (reads_of old) (chosen Old old) → IsAlike (reads_of new) (chosen New old) → ReadsGoOn old new
+  ReadsOldAgain : stage_in old ≡ Some WriteBothReadNew → stage_in new ≡ Some FallbackCleanup →
+      IsAlike (reads_of old) (chosen New old) → IsAlike (reads_of new) (chosen Old old) → ReadsGoOn old new
 
 -- the same replicas leave and come, under the same session
 pub record IsSameMove (a : Transition) (b : Transition) : Type 0 where
@@ -51,9 +53,12 @@ pub record IsSameMove (a : Transition) (b : Transition) : Type 0 where
 -- Where writes begin to go to both, the tablet's own list is what was read; where they go on to both, nothing but the
 -- stage changes; and where a tablet streams, writes went to both before.
 pub record BothGoesOn (old : Tablet) (new : Tablet) : Type 0 where
-  pub begins : writes_both new ≡ true → writes_both old ≡ false → (stage_in old ≡ Some AllowWriteBothReadOld) × (stage_in new ≡ Some WriteBothReadOld) × IsAlike (chosen Old new) (reads_of old)
+  pub begins : writes_both new ≡ true → writes_both old ≡ false →
+      (stage_in old ≡ Some AllowWriteBothReadOld) × (stage_in new ≡ Some WriteBothReadOld) ×
+      IsAlike (chosen Old new) (reads_of old)
   pub same_list : writes_both new ≡ true → writes_both old ≡ true → new.replicas ≡ old.replicas
-  pub same_move : writes_both new ≡ true → writes_both old ≡ true → (a b : Transition) → old.transition ≡ Some a → new.transition ≡ Some b → IsSameMove a b
+  pub same_move : writes_both new ≡ true → writes_both old ≡ true → (a b : Transition) → old.transition ≡ Some a →
+      new.transition ≡ Some b → IsSameMove a b
   pub streams : stage_in new ≡ Some Streaming → writes_both old ≡ true
 
 -- Who may be cleaned at the newer version is read at neither and not written at the newer one; while writes go to both
@@ -65,16 +70,18 @@ pub record SparesLists (old : Tablet) (new : Tablet) : Type 0 where
   pub both : writes_both new ≡ true → (host : HostId) → is_cleanable_host new host ≡ false
 
 -- the next view still has the move, and the same one of its hosts may be cleaned
-pub record StaysCleanable (old : Transition) (new : Tablet) : Type 0 where
+pub record StaysCleanable (t : Transition) (old : Tablet) (new : Tablet) : Type 0 where
   pub move : Transition
   pub moving : new.transition ≡ Some move
-  pub same : IsSameMove old move
-  pub cleaned : cleans (Some move.stage) ≡ cleans (Some old.stage)
+  pub same : IsSameMove t move
+  pub cleaned : cleans (Some move.stage) ≡ cleans (Some t.stage)
+  pub hosts : (host : HostId) → is_cleanable_host new host ≡ is_cleanable_host old host
 
 -- A move that is being cleaned up does not end at the next step.
 abbrev pub CleaningGoesOn : Tablet → Tablet → Type 0
 CleaningGoesOn old new =
-    (t : Transition) → old.transition ≡ Some t → (t.stage ≡ Cleanup) ⊎ (t.stage ≡ CleanupTarget) → StaysCleanable t new
+    (t : Transition) → old.transition ≡ Some t → (t.stage ≡ Cleanup) ⊎ (t.stage ≡ CleanupTarget) →
+    StaysCleanable t old new
 
 -- The lists that matter for a write at one of the two versions: those that are read at either; and while the newer
 -- one writes to both, its own list, and the new one where the write went to both.
@@ -84,11 +91,13 @@ pub data Matters (old : Tablet) (new : Tablet) (written : Tablet) : List Replica
   OwnList : writes_both new ≡ true → Matters old new written (chosen Old new)
   NewList : writes_both new ≡ true → writes_both written ≡ true → Matters old new written (chosen New new)
 
--- Where the base need and the extra one of the replicas that a write goes to pass a test, on each list that matters
--- as many as the base need pass it and may not be cleaned.
+-- Where the base need, and the extra one, of the replicas that a write goes to pass a test, the base need of each list
+-- that matters pass it and are on hosts that may not be cleaned.
 abbrev pub KeepsQuorum : Tablet → Tablet → Tablet → Type 0
 KeepsQuorum old new written =
-    (list : List Replica) → Matters old new written list → (test : Replica → Bool) (need : ℕ) → need + extra (writes (stage_in written)) ≤ count_by test (writes_of written) → need ≤ count_by (λ replica. test replica && not (is_cleanable new replica)) list
+    (list : List Replica) → Matters old new written list → (test : Replica → Bool) (need : ℕ) →
+    need + extra (writes (stage_in written)) ≤ count_by test (writes_of written) →
+    need ≤ count_by (λ (replica : Replica). test replica && not (is_cleanable_host new replica.host)) list
 
 -- the older view and the newer one
 pub record IsPair (old : Tablet) (new : Tablet) : Type 0 where

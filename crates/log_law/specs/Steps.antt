@@ -14,11 +14,17 @@ use Rattle.tablet_map.specs.Calls.{at_rest, started}
 -- the transition ends, with the pending replica in the leaving one's place; or it ends with the list as it is.
 pub data ViewStep (index : ℕ) (old : Tablet) (new : Tablet) : Type 0 where
   Stays : new ≡ old → ViewStep index old new
-  Regroups : same_set new.replicas old.replicas ≡ true → old.transition ≡ None → new.transition ≡ None → ViewStep index old new
-  Starts : (leaving pending : Replica) → old.transition ≡ None → CanMove old.replicas leaving pending → new ≡ started old leaving pending (record { 0 = index }) → ViewStep index old new
-  Advances : (t : Transition) (stage : Stage) → old.transition ≡ Some t → next_ok t.stage (Some stage) ≡ true → new ≡ record { replicas = old.replicas; transition = Some (record t { stage = stage }) } → ViewStep index old new
-  Finishes : (t : Transition) → old.transition ≡ Some t → t.stage ≡ EndMigration → new ≡ at_rest (replaced t.leaving t.pending old.replicas) → ViewStep index old new
-  Reverts : (t : Transition) → old.transition ≡ Some t → t.stage ≡ RevertMigration → new ≡ at_rest old.replicas → ViewStep index old new
+  Regroups : same_set new.replicas old.replicas ≡ true → old.transition ≡ None → new.transition ≡ None →
+      ViewStep index old new
+  Starts : (leaving pending : Replica) → old.transition ≡ None → CanMove old.replicas leaving pending →
+      new ≡ started old leaving pending (record { 0 = index }) → ViewStep index old new
+  Advances : (t : Transition) (stage : Stage) → old.transition ≡ Some t → next_ok t.stage (Some stage) ≡ true →
+      new ≡ record { replicas = old.replicas; transition = Some (record t { stage = stage }) } →
+      ViewStep index old new
+  Finishes : (t : Transition) → old.transition ≡ Some t → t.stage ≡ EndMigration →
+      new ≡ at_rest (replaced t.leaving t.pending old.replicas) → ViewStep index old new
+  Reverts : (t : Transition) → old.transition ≡ Some t → t.stage ≡ RevertMigration → new ≡ at_rest old.replicas →
+      ViewStep index old new
 
 -- the view goes on over the command of this index
 pub record GoesOn (index : ℕ) (old : Tablet) (view : Option Tablet) : Type 0 where

@@ -1,5 +1,5 @@
 -- What is kept of a run that goes on with one event more.
-use Rattle.std.proofs.Common.{◌≡◌, ◌<◌, ◌≤◌, ◌⊎◌, inl, inr, ℕ, zero, suc, Bool, true, false, cond, ◌&&◌, Option, Some, None, List, [], ◌∷◌, ◌++◌, length, refl, sym, ◌∙◌, ap, subst, arith, if◌then◌else◌, ◌↔◌}
+use Rattle.std.proofs.Common.{◌≡◌, ◌<◌, ◌≤◌, ◌⊎◌, inl, inr, ℕ, Bool, true, false, ◌&&◌, Option, Some, None, List, [], ◌∷◌, ◌++◌, length, refl, sym, ◌∙◌, ap, subst, arith, if◌then◌else◌, ◌↔◌}
 use Rattle.std.specs.List.{slice_get}
 use Rattle.std.proofs.lemmas.Option.{slice_get_within}
 use Rattle.cell_merge.specs.Cell.{IsNotBelow, is_not_below, greater_cell}
@@ -12,10 +12,11 @@ use Rattle.register_model.specs.declared.data.Request.{Request}
 use Rattle.register_model.specs.declared.known.Standing.{Standing}
 use Rattle.register_model.specs.declared.known.Standing.TheVariants.{Writing, Reading, Done}
 use Rattle.register_model.specs.declared.known.Write.{Write}
+use Rattle.register_model.specs.declared.seen.Seen.{Seen}
 use Rattle.register_model.specs.Known.{is_request, is_key, is_write, standing_of, acked_of, is_written, is_none_or_written}
-use Rattle.register_model.specs.Register.{begun_by, ended_by, Stands, BeginsAt, EndsAt, WriteBeganBefore, ReadBeganBefore, WrittenBefore, HasBegun, IsRegisterRun}
+use Rattle.register_model.specs.Register.{begun_by, ended_by, Stands, BeginsAt, EndsAt, WriteBeganBefore, WrittenBefore, HasBegun, IsRegisterRun}
 use Rattle.register_model.specs.Kept.{AckedBefore, IsGreatestAcked, IsUnbegun, IsUnended, IsWriting, IsReading, IsDone, StandsSo, IsKept}
-use Rattle.register_model.proofs.RunLemmas.{IsLast, stands-more, stands-split, stands-last, MayCome, run-longer, run-empty}
+use Rattle.register_model.proofs.RunLemmas.{stands-more, stands-split, stands-last, MayCome, run-longer, run-empty}
 use Rattle.register_model.proofs.NameLemmas.{is_request-same, is_request-itself, is_key-same, is_key-itself, is_write-same, is_write-itself}
 
 -- ---- the request that an event ends has begun
@@ -211,14 +212,14 @@ second_true : (a b : Bool) → (a && b) ≡ true → b ≡ true
 second_true true b e = e
 second_true false b e = cc
 
-module _ (events : List ClientEvent) (standings : List (Request × Standing)) (acked : List (Key × Cell)) (writes : List Write) (kept : IsKept events standings acked writes) where
-  unbegun : (request : Request) → None ≡ standing_of standings request → IsUnbegun events request
+module _ (events : List ClientEvent) (seen : Seen) (kept : IsKept events seen) where
+  unbegun : (request : Request) → None ≡ standing_of seen.standings request → IsUnbegun events request
   unbegun request e = let P : Option Standing → Type 0 = λ s. StandsSo events request s in subst P (sym e) (kept.standing request)
 
-  pub writing : (request : Request) (key : Key) (cell : Cell) → Some (Writing key cell) ≡ standing_of standings request → IsWriting events request key cell
+  pub writing : (request : Request) (key : Key) (cell : Cell) → Some (Writing key cell) ≡ standing_of seen.standings request → IsWriting events request key cell
   writing request key cell e = let P : Option Standing → Type 0 = λ s. StandsSo events request s in subst P (sym e) (kept.standing request)
 
-  pub reading : (request : Request) (key : Key) (least : Option Cell) → Some (Reading key least) ≡ standing_of standings request → IsReading events request key least
+  pub reading : (request : Request) (key : Key) (least : Option Cell) → Some (Reading key least) ≡ standing_of seen.standings request → IsReading events request key least
   reading request key least e = let P : Option Standing → Type 0 = λ s. StandsSo events request s in subst P (sym e) (kept.standing request)
 
   -- a write begins
@@ -232,7 +233,7 @@ module _ (events : List ClientEvent) (standings : List (Request × Standing)) (a
         not_below = λ wrote at begin writer reader k w c e writes acks before begins. cc;
       }
 
-  pub begin_write-kept : (request : Request) (key : Key) (cell : Cell) (new : List (Request × Standing)) (more : List Write) → None ≡ standing_of standings request → ((q : Request) → standing_of new q ≡ (if is_request request q then Some (Writing key cell) else standing_of standings q)) → ((k : Key) (c : Cell) → is_written more k c ≡ (if is_write (record { key = key; cell = cell }) (record { key = k; cell = c }) then true else is_written writes k c)) → IsKept (events ++ WriteBegun request key cell ∷ []) new acked more
+  pub begin_write-kept : (request : Request) (key : Key) (cell : Cell) (new : List (Request × Standing)) (more : List Write) → None ≡ standing_of seen.standings request → ((q : Request) → standing_of new q ≡ (if is_request request q then Some (Writing key cell) else standing_of seen.standings q)) → ((k : Key) (c : Cell) → is_written more k c ≡ (if is_write (record { key = key; cell = cell }) (record { key = k; cell = c }) then true else is_written seen.written k c)) → IsKept (events ++ WriteBegun request key cell ∷ []) (record { standings = new; acked = seen.acked; written = more })
   begin_write-kept request key cell new more absent updates adds =
       let next : ClientEvent = WriteBegun request key cell in
       let none = unbegun request absent in
@@ -243,10 +244,10 @@ module _ (events : List ClientEvent) (standings : List (Request × Standing)) (a
       let itself : Key → Cell → Bool = λ k c. is_write (record { key = key; cell = cell }) (record { key = k; cell = c }) in
       record {
         run = run-longer events next kept.run may;
-        standing = standing-set events next kept.run may standings new request (Writing key cell) (λ q e. cc) (λ q e. cc) kept.standing here updates;
-        greatest = greatest-same events next kept.run may acked (λ writer e. cc) kept.greatest;
+        standing = standing-set events next kept.run may seen.standings new request (Writing key cell) (λ q e. cc) (λ q e. cc) kept.standing here updates;
+        greatest = greatest-same events next kept.run may seen.acked (λ writer e. cc) kept.greatest;
         written = λ k c. (
-          λ e. elim (itself k c) as (λ b. itself k c ≡ b → (if b then true else is_written writes k c) ≡ true → WrittenBefore (events ++ next ∷ []) (length (events ++ next ∷ [])) k c) [
+          λ e. elim (itself k c) as (λ b. itself k c ≡ b → (if b then true else is_written seen.written k c) ≡ true → WrittenBefore (events ++ next ∷ []) (length (events ++ next ∷ [])) k c) [
             | true ↦ λ is yes.
                 let same : Write = record { key = k; cell = c } in
                 let e2 = is_write-same (record { key = key; cell = cell }) same is in
@@ -255,7 +256,7 @@ module _ (events : List ClientEvent) (standings : List (Request × Standing)) (a
             | false ↦ λ is yes. written-now events next k c ((kept.written k c).0 yes)
           ] refl (sym (adds k c) ∙ e),
           λ b. adds k c ∙ elim (written-split events next (length (events ++ next ∷ [])) k c b) [
-            | inl before ↦ elim (itself k c) as (λ t. (if t then true else is_written writes k c) ≡ true) [ true ↦ refl | false ↦ (kept.written k c).1 before ]
+            | inl before ↦ elim (itself k c) as (λ t. (if t then true else is_written seen.written k c) ≡ true) [ true ↦ refl | false ↦ (kept.written k c).1 before ]
             | inr last ↦
                 let key_same : key ≡ k = cc in
                 let cell_same : cell ≡ c = cc in
@@ -298,7 +299,7 @@ module _ (events : List ClientEvent) (standings : List (Request × Standing)) (a
             ]
       ]
 
-  pub acknowledge-kept : (request : Request) (key : Key) (cell : Cell) (new : List (Request × Standing)) (more : List (Key × Cell)) → Some (Writing key cell) ≡ standing_of standings request → ((q : Request) → standing_of new q ≡ (if is_request request q then Some Done else standing_of standings q)) → ((k : Key) → acked_of more k ≡ (if is_key key k then greater_cell (acked_of acked key) (Some cell) else acked_of acked k)) → IsKept (events ++ WriteAcked request ∷ []) new more writes
+  pub acknowledge-kept : (request : Request) (key : Key) (cell : Cell) (new : List (Request × Standing)) (more : List (Key × Cell)) → Some (Writing key cell) ≡ standing_of seen.standings request → ((q : Request) → standing_of new q ≡ (if is_request request q then Some Done else standing_of seen.standings q)) → ((k : Key) → acked_of more k ≡ (if is_key key k then greater_cell (acked_of seen.acked key) (Some cell) else acked_of seen.acked k)) → IsKept (events ++ WriteAcked request ∷ []) (record { standings = new; acked = more; written = seen.written })
   acknowledge-kept request key cell new more stood updates raises =
       let next : ClientEvent = WriteAcked request in
       let w = writing request key cell stood in
@@ -317,16 +318,16 @@ module _ (events : List ClientEvent) (standings : List (Request × Standing)) (a
         ended = length events;
         ends = ends-last events next request refl;
       } in
-      let raised : IsGreatestAcked (events ++ next ∷ []) (length (events ++ next ∷ [])) key (greater_cell (acked_of acked key) (Some cell)) = λ x. (
+      let raised : IsGreatestAcked (events ++ next ∷ []) (length (events ++ next ∷ [])) key (greater_cell (acked_of seen.acked key) (Some cell)) = λ x. (
         λ above c b. elim (acked-split request key cell w key c b) [
-          | inl before ↦ (kept.greatest key x).0 (not_below.transitive x (greater_cell (acked_of acked key) (Some cell)) (acked_of acked key) above (greater-first (acked_of acked key) (Some cell))) c before
+          | inl before ↦ (kept.greatest key x).0 (not_below.transitive x (greater_cell (acked_of seen.acked key) (Some cell)) (acked_of seen.acked key) above (greater-first (acked_of seen.acked key) (Some cell))) c before
           | inr same ↦
               let P : Cell → Type 0 = λ y. IsNotBelow x (Some y) in
-              subst P same.1 (not_below.transitive x (greater_cell (acked_of acked key) (Some cell)) (Some cell) above (greater-second (acked_of acked key) (Some cell)))
+              subst P same.1 (not_below.transitive x (greater_cell (acked_of seen.acked key) (Some cell)) (Some cell) above (greater-second (acked_of seen.acked key) (Some cell)))
         ],
-        λ each. greater-least (acked_of acked key) (Some cell) x ((kept.greatest key x).1 (λ c b. each c (acked-now events next key c b))) (each cell mine),
+        λ each. greater-least (acked_of seen.acked key) (Some cell) x ((kept.greatest key x).1 (λ c b. each c (acked-now events next key c b))) (each cell mine),
       ) in
-      let others : (k : Key) → is_key key k ≡ false → IsGreatestAcked (events ++ next ∷ []) (length (events ++ next ∷ [])) k (acked_of acked k) = λ k apart x. (
+      let others : (k : Key) → is_key key k ≡ false → IsGreatestAcked (events ++ next ∷ []) (length (events ++ next ∷ [])) k (acked_of seen.acked k) = λ k apart x. (
         λ above c b. elim (acked-split request key cell w k c b) [
           | inl before ↦ (kept.greatest k x).0 above c before
           | inr same ↦
@@ -338,14 +339,14 @@ module _ (events : List ClientEvent) (standings : List (Request × Standing)) (a
       ) in
       record {
         run = run-longer events next kept.run may;
-        standing = standing-set events next kept.run may standings new request Done (λ q e. cc) (λ q e. cc) kept.standing here updates;
+        standing = standing-set events next kept.run may seen.standings new request Done (λ q e. cc) (λ q e. cc) kept.standing here updates;
         greatest = λ k.
             let P : Option Cell → Type 0 = λ g. IsGreatestAcked (events ++ next ∷ []) (length (events ++ next ∷ [])) k g in
-            subst P (sym (raises k)) (elim (is_key key k) as (λ b. is_key key k ≡ b → IsGreatestAcked (events ++ next ∷ []) (length (events ++ next ∷ [])) k (if b then greater_cell (acked_of acked key) (Some cell) else acked_of acked k)) [
-              | true ↦ λ same. let R : Key → Type 0 = λ y. IsGreatestAcked (events ++ next ∷ []) (length (events ++ next ∷ [])) y (greater_cell (acked_of acked key) (Some cell)) in subst R (is_key-same key k same) raised
+            subst P (sym (raises k)) (elim (is_key key k) as (λ b. is_key key k ≡ b → IsGreatestAcked (events ++ next ∷ []) (length (events ++ next ∷ [])) k (if b then greater_cell (acked_of seen.acked key) (Some cell) else acked_of seen.acked k)) [
+              | true ↦ λ same. let R : Key → Type 0 = λ y. IsGreatestAcked (events ++ next ∷ []) (length (events ++ next ∷ [])) y (greater_cell (acked_of seen.acked key) (Some cell)) in subst R (is_key-same key k same) raised
               | false ↦ λ apart. others k apart
             ] refl);
-        written = written-same events next kept.run may writes (λ writer k c e. cc) kept.written;
+        written = written-same events next kept.run may seen.written (λ writer k c e. cc) kept.written;
       }
 
   -- a read begins
@@ -359,28 +360,28 @@ module _ (events : List ClientEvent) (standings : List (Request × Standing)) (a
         not_below = λ wrote at begin writer reader k w c e writes acks before begins. cc;
       }
 
-  pub begin_read-kept : (request : Request) (key : Key) (new : List (Request × Standing)) → None ≡ standing_of standings request → ((q : Request) → standing_of new q ≡ (if is_request request q then Some (Reading key (acked_of acked key)) else standing_of standings q)) → IsKept (events ++ ReadBegun request key ∷ []) new acked writes
+  pub begin_read-kept : (request : Request) (key : Key) (new : List (Request × Standing)) → None ≡ standing_of seen.standings request → ((q : Request) → standing_of new q ≡ (if is_request request q then Some (Reading key (acked_of seen.acked key)) else standing_of seen.standings q)) → IsKept (events ++ ReadBegun request key ∷ []) (record { standings = new; acked = seen.acked; written = seen.written })
   begin_read-kept request key new absent updates =
       let next : ClientEvent = ReadBegun request key in
       let none = unbegun request absent in
       let may = begin_read-may request key none in
       let unended : IsUnended (events ++ next ∷ []) request =
       unended-more events next request (λ e. let wrong : None ≡ Some request = e in cc) (unended-of_unbegun events request kept.run none) in
-      let here : IsReading (events ++ next ∷ []) request key (acked_of acked key) = record {
+      let here : IsReading (events ++ next ∷ []) request key (acked_of seen.acked key) = record {
         at = length events;
         stands = stands-last events next;
         unended = unended;
-        greatest = greatest-more events next kept.run may (length events) key (acked_of acked key) (omega arith) (kept.greatest key);
+        greatest = greatest-more events next kept.run may (length events) key (acked_of seen.acked key) (omega arith) (kept.greatest key);
       } in
       record {
         run = run-longer events next kept.run may;
-        standing = standing-set events next kept.run may standings new request (Reading key (acked_of acked key)) (λ q e. cc) (λ q e. cc) kept.standing here updates;
-        greatest = greatest-same events next kept.run may acked (λ writer e. cc) kept.greatest;
-        written = written-same events next kept.run may writes (λ writer k c e. cc) kept.written;
+        standing = standing-set events next kept.run may seen.standings new request (Reading key (acked_of seen.acked key)) (λ q e. cc) (λ q e. cc) kept.standing here updates;
+        greatest = greatest-same events next kept.run may seen.acked (λ writer e. cc) kept.greatest;
+        written = written-same events next kept.run may seen.written (λ writer k c e. cc) kept.written;
       }
 
   -- an event that ends an open request and acknowledges nothing
-  ended-kept : (request : Request) (began : ℕ) (next : ClientEvent) (new : List (Request × Standing)) → BeginsAt events began request → MayCome events next → ended_by next ≡ Some request → begun_by next ≡ None → ((writer : Request) → WriteAcked writer ≡ next → ⊥) → ((writer : Request) (key : Key) (cell : Cell) → WriteBegun writer key cell ≡ next → ⊥) → ((q : Request) → standing_of new q ≡ (if is_request request q then Some Done else standing_of standings q)) → IsKept (events ++ next ∷ []) new acked writes
+  ended-kept : (request : Request) (began : ℕ) (next : ClientEvent) (new : List (Request × Standing)) → BeginsAt events began request → MayCome events next → ended_by next ≡ Some request → begun_by next ≡ None → ((writer : Request) → WriteAcked writer ≡ next → ⊥) → ((writer : Request) (key : Key) (cell : Cell) → WriteBegun writer key cell ≡ next → ⊥) → ((q : Request) → standing_of new q ≡ (if is_request request q then Some Done else standing_of seen.standings q)) → IsKept (events ++ next ∷ []) (record { standings = new; acked = seen.acked; written = seen.written })
   ended-kept request began next new begins may ends begins_none no_ack no_write updates =
       let here : IsDone (events ++ next ∷ []) request = record {
         began = began;
@@ -390,13 +391,13 @@ module _ (events : List ClientEvent) (standings : List (Request × Standing)) (a
       } in
       record {
         run = run-longer events next kept.run may;
-        standing = standing-set events next kept.run may standings new request Done (λ q e. let wrong : None ≡ Some q = sym begins_none ∙ e in cc) (λ q e. let both : Some request ≡ Some q = sym ends ∙ e in cc) kept.standing here updates;
-        greatest = greatest-same events next kept.run may acked no_ack kept.greatest;
-        written = written-same events next kept.run may writes no_write kept.written;
+        standing = standing-set events next kept.run may seen.standings new request Done (λ q e. let wrong : None ≡ Some q = sym begins_none ∙ e in cc) (λ q e. let both : Some request ≡ Some q = sym ends ∙ e in cc) kept.standing here updates;
+        greatest = greatest-same events next kept.run may seen.acked no_ack kept.greatest;
+        written = written-same events next kept.run may seen.written no_write kept.written;
       }
 
   -- a read returns
-  read_ok-may : (request : Request) (key : Key) (least cell : Option Cell) → IsReading events request key least → IsNotBelow cell least → is_none_or_written writes key cell ≡ true → MayCome events (ReadOk request cell)
+  read_ok-may : (request : Request) (key : Key) (least cell : Option Cell) → IsReading events request key least → IsNotBelow cell least → is_none_or_written seen.written key cell ≡ true → MayCome events (ReadOk request cell)
   read_ok-may request key least cell r above known =
       let one_key : (begin : ℕ) (q : Request) (k : Key) → request ≡ q → Stands events begin (ReadBegun q k) → (begin ≡ r.at) × (k ≡ key) = λ begin q k same stands.
       let at : begin ≡ r.at = kept.run.begins_once begin r.at request (record { event = ReadBegun q k; stands = stands; begins = ap Some (sym same) }) (record { event = ReadBegun request key; stands = r.stands; begins = refl }) in
@@ -410,8 +411,8 @@ module _ (events : List ClientEvent) (standings : List (Request × Standing)) (a
             let same : request ≡ q = cc in
             let is : cell ≡ Some c = cc in
             let found = one_key begin q k same stands in
-            let P : Option Cell → Type 0 = λ o. is_none_or_written writes key o ≡ true in
-            let there : is_written writes key c ≡ true = subst P is known in
+            let P : Option Cell → Type 0 = λ o. is_none_or_written seen.written key o ≡ true in
+            let there : is_written seen.written key c ≡ true = subst P is known in
             let Q : Key → Type 0 = λ y. WrittenBefore events (length events) y c in
             subst Q (sym found.1) ((kept.written key c).0 there);
         not_below = λ wrote at begin writer q k w c e wrote_it acks before begins.
@@ -425,11 +426,11 @@ module _ (events : List ClientEvent) (standings : List (Request × Standing)) (a
             subst R is ((r.greatest cell).0 above w acked_before);
       }
 
-  pub end_read-kept : (request : Request) (key : Key) (least cell : Option Cell) (new : List (Request × Standing)) → Some (Reading key least) ≡ standing_of standings request → (is_not_below cell least && is_none_or_written writes key cell) ≡ true → ((q : Request) → standing_of new q ≡ (if is_request request q then Some Done else standing_of standings q)) → IsKept (events ++ ReadOk request cell ∷ []) new acked writes
+  pub end_read-kept : (request : Request) (key : Key) (least cell : Option Cell) (new : List (Request × Standing)) → Some (Reading key least) ≡ standing_of seen.standings request → (is_not_below cell least && is_none_or_written seen.written key cell) ≡ true → ((q : Request) → standing_of new q ≡ (if is_request request q then Some Done else standing_of seen.standings q)) → IsKept (events ++ ReadOk request cell ∷ []) (record { standings = new; acked = seen.acked; written = seen.written })
   end_read-kept request key least cell new stood fit updates =
       let r = reading request key least stood in
-      let above = first_true (is_not_below cell least) (is_none_or_written writes key cell) fit in
-      let known = second_true (is_not_below cell least) (is_none_or_written writes key cell) fit in
+      let above = first_true (is_not_below cell least) (is_none_or_written seen.written key cell) fit in
+      let known = second_true (is_not_below cell least) (is_none_or_written seen.written key cell) fit in
       ended-kept request r.at (ReadOk request cell) new (record { event = ReadBegun request key; stands = r.stands; begins = refl }) (read_ok-may request key least cell r above known) refl refl (λ writer e. cc) (λ writer k c e. cc) updates
 
   -- a request ends with neither
@@ -443,14 +444,14 @@ module _ (events : List ClientEvent) (standings : List (Request × Standing)) (a
         not_below = λ wrote at begin writer reader k v c e wrote_it acks before begins. cc;
       }
 
-  pub end_write-kept : (request : Request) (key : Key) (cell : Cell) (new : List (Request × Standing)) → Some (Writing key cell) ≡ standing_of standings request → ((q : Request) → standing_of new q ≡ (if is_request request q then Some Done else standing_of standings q)) → IsKept (events ++ Ended request ∷ []) new acked writes
+  pub end_write-kept : (request : Request) (key : Key) (cell : Cell) (new : List (Request × Standing)) → Some (Writing key cell) ≡ standing_of seen.standings request → ((q : Request) → standing_of new q ≡ (if is_request request q then Some Done else standing_of seen.standings q)) → IsKept (events ++ Ended request ∷ []) (record { standings = new; acked = seen.acked; written = seen.written })
   end_write-kept request key cell new stood updates =
       let w = writing request key cell stood in
       let begun : HasBegun events (length events) (Ended request) =
       inl (record { at = w.at; key = key; cell = cell; earlier = slice_get_within events w.at (WriteBegun request key cell) w.stands; stands = w.stands }) in
       ended-kept request w.at (Ended request) new (record { event = WriteBegun request key cell; stands = w.stands; begins = refl }) (ended-may request w.unended begun) refl refl (λ writer e. cc) (λ writer k c e. cc) updates
 
-  pub end_unread-kept : (request : Request) (key : Key) (least : Option Cell) (new : List (Request × Standing)) → Some (Reading key least) ≡ standing_of standings request → ((q : Request) → standing_of new q ≡ (if is_request request q then Some Done else standing_of standings q)) → IsKept (events ++ Ended request ∷ []) new acked writes
+  pub end_unread-kept : (request : Request) (key : Key) (least : Option Cell) (new : List (Request × Standing)) → Some (Reading key least) ≡ standing_of seen.standings request → ((q : Request) → standing_of new q ≡ (if is_request request q then Some Done else standing_of seen.standings q)) → IsKept (events ++ Ended request ∷ []) (record { standings = new; acked = seen.acked; written = seen.written })
   end_unread-kept request key least new stood updates =
       let r = reading request key least stood in
       let begun : HasBegun events (length events) (Ended request) =
@@ -458,7 +459,7 @@ module _ (events : List ClientEvent) (standings : List (Request × Standing)) (a
       ended-kept request r.at (Ended request) new (record { event = ReadBegun request key; stands = r.stands; begins = refl }) (ended-may request r.unended begun) refl refl (λ writer e. cc) (λ writer k c e. cc) updates
 
 -- nothing is kept of no events
-pub kept-empty : IsKept [] [] [] []
+pub kept-empty : IsKept [] (record { standings = []; acked = []; written = [] })
 kept-empty = record {
   run = run-empty;
   standing = λ request place b. let wrong : None ≡ Some b.event = b.stands in cc;

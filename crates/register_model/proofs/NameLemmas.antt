@@ -1,5 +1,5 @@
 -- Requests, keys and writes that the orders do not tell apart are the same.
-use Rattle.std.proofs.Common.{◌≡◌, ℕ, Bool, true, false, refl, ap}
+use Rattle.std.proofs.Common.{◌≡◌, ℕ, true, refl, ap}
 use Rattle.std.specs.Ordering.{nat_cmp, int_cmp, ordering_then, is_eq}
 use Rattle.std.specs.declared.cmp.Ordering.{Ordering}
 use Rattle.std.specs.declared.cmp.Ordering.TheVariants.{Less, Equal, Greater}
@@ -11,7 +11,7 @@ use Rattle.cell_merge.proofs.CellOrder.{cell_same}
 use Rattle.register_model.specs.declared.data.Key.{Key}
 use Rattle.register_model.specs.declared.data.Request.{Request}
 use Rattle.register_model.specs.declared.known.Write.{Write}
-use Rattle.register_model.specs.Known.{is_request, is_key, is_write, request_order, key_order}
+use Rattle.register_model.specs.Known.{is_request, is_key, is_write}
 use Rattle.register_model.specs.WriteOrder.{write_order_total}
 
 -- two orders, one after the other, find two things equal where both do

@@ -1,9 +1,9 @@
 -- Events with which a run does not go on.
-use Rattle.std.proofs.Common.{◌≡◌, ◌<◌, ◌≤◌, ◌⊎◌, inl, inr, ℕ, zero, suc, Bool, true, false, ◌&&◌, Option, Some, None, List, [], ◌∷◌, ◌++◌, length, refl, sym, ◌∙◌, ap, subst, arith, take, drop, get_or, ◌+◌}
+use Rattle.std.proofs.Common.{◌≡◌, ◌<◌, inl, inr, ℕ, zero, suc, true, false, ◌&&◌, Option, Some, None, List, [], ◌∷◌, ◌++◌, length, refl, sym, ◌∙◌, ap, subst, arith, take, drop, get_or, ◌+◌}
 use Rattle.std.proofs.lemmas.List.{take_more, take-append-drop}
 use Rattle.std.specs.List.{slice_get}
 use Rattle.std.proofs.lemmas.Option.{slice_get_within}
-use Rattle.cell_merge.specs.Cell.{IsNotBelow, is_not_below}
+use Rattle.cell_merge.specs.Cell.{is_not_below}
 use Rattle.cell_merge.specs.declared.cell.Cell.{Cell}
 use Rattle.register_model.specs.declared.data.ClientEvent.{ClientEvent}
 use Rattle.register_model.specs.declared.data.ClientEvent.TheVariants.{WriteBegun, WriteAcked, ReadBegun, ReadOk, Ended}
@@ -11,12 +11,12 @@ use Rattle.register_model.specs.declared.data.Key.{Key}
 use Rattle.register_model.specs.declared.data.Request.{Request}
 use Rattle.register_model.specs.declared.known.Standing.{Standing}
 use Rattle.register_model.specs.declared.known.Standing.TheVariants.{Writing, Reading, Done}
-use Rattle.register_model.specs.declared.known.Write.{Write}
-use Rattle.register_model.specs.Known.{standing_of, is_written, is_none_or_written}
-use Rattle.register_model.specs.Register.{begun_by, ended_by, Stands, BeginsAt, EndsAt, WriteBeganBefore, ReadBeganBefore, WrittenBefore, HasBegun, IsRegisterRun}
-use Rattle.register_model.specs.Kept.{AckedBefore, IsUnbegun, IsDone, StandsSo, IsKept}
+use Rattle.register_model.specs.declared.seen.Seen.{Seen}
+use Rattle.register_model.specs.Known.{standing_of, is_none_or_written}
+use Rattle.register_model.specs.Register.{begun_by, ended_by, BeginsAt, EndsAt, WriteBeganBefore, ReadBeganBefore, HasBegun, IsRegisterRun}
+use Rattle.register_model.specs.Kept.{IsUnbegun, IsDone, StandsSo, IsKept}
 use Rattle.register_model.proofs.RunLemmas.{stands-more, stands-split, stands-last}
-use Rattle.register_model.proofs.KeptLemmas.{BeginsBefore, has_begun-begins, begins-more, ends-more, begins-last, ends-last, begins-split, written-split, writing, reading}
+use Rattle.register_model.proofs.KeptLemmas.{has_begun-begins, begins-more, ends-more, begins-last, ends-last, written-split, writing, reading}
 
 -- ---- the first events of a run are a run
 
@@ -63,18 +63,18 @@ module _ (events more : List ClientEvent) where
 
 -- ---- one event more
 
-module _ (events : List ClientEvent) (standings : List (Request × Standing)) (acked : List (Key × Cell)) (writes : List Write) (kept : IsKept events standings acked writes) where
+module _ (events : List ClientEvent) (seen : Seen) (kept : IsKept events seen) where
   -- a request that stands so has begun
   standing-begun : (request : Request) (s : Standing) → StandsSo events request (Some s) → (at : ℕ) × BeginsAt events at request
   standing-begun request (Writing key cell) w = (w.at, record { event = WriteBegun request key cell; stands = w.stands; begins = refl })
   standing-begun request (Reading key least) r = (r.at, record { event = ReadBegun request key; stands = r.stands; begins = refl })
   standing-begun request Done d = (d.began, d.begins)
 
-  stood : (request : Request) (s : Option Standing) → s ≡ standing_of standings request → StandsSo events request s
+  stood : (request : Request) (s : Option Standing) → s ≡ standing_of seen.standings request → StandsSo events request s
   stood request s e = let P : Option Standing → Type 0 = λ o. StandsSo events request o in subst P (sym e) (kept.standing request)
 
   -- the request began before
-  pub begun-refused : (next : ClientEvent) (request : Request) (s : Standing) → begun_by next ≡ Some request → Some s ≡ standing_of standings request → IsRegisterRun (events ++ next ∷ []) → ⊥
+  pub begun-refused : (next : ClientEvent) (request : Request) (s : Standing) → begun_by next ≡ Some request → Some s ≡ standing_of seen.standings request → IsRegisterRun (events ++ next ∷ []) → ⊥
   begun-refused next request s begins e run =
       let before = standing-begun request s (stood request (Some s) e) in
       let first : BeginsAt events before.0 request = before.1 in
@@ -82,14 +82,14 @@ module _ (events : List ClientEvent) (standings : List (Request × Standing)) (a
       absurd (omega (arith, same, slice_get_within events before.0 first.event first.stands))
 
   -- the request ended before
-  pub done-refused : (next : ClientEvent) (request : Request) → ended_by next ≡ Some request → Some Done ≡ standing_of standings request → IsRegisterRun (events ++ next ∷ []) → ⊥
+  pub done-refused : (next : ClientEvent) (request : Request) → ended_by next ≡ Some request → Some Done ≡ standing_of seen.standings request → IsRegisterRun (events ++ next ∷ []) → ⊥
   done-refused next request ends e run =
       let d : IsDone events request = stood request (Some Done) e in
       let same : d.ended ≡ length events = run.ends_open.once d.ended (length events) request (ends-more events next d.ended request d.ends) (ends-last events next request ends) in
       absurd (omega (arith, same, slice_get_within events d.ended d.ends.event d.ends.stands))
 
   -- the request has not begun
-  pub unbegun-refused : (next : ClientEvent) (request : Request) → ended_by next ≡ Some request → None ≡ standing_of standings request → IsRegisterRun (events ++ next ∷ []) → ⊥
+  pub unbegun-refused : (next : ClientEvent) (request : Request) → ended_by next ≡ Some request → None ≡ standing_of seen.standings request → IsRegisterRun (events ++ next ∷ []) → ⊥
   unbegun-refused next request ends e run =
       let none : IsUnbegun events request = stood request None e in
       let longer : List ClientEvent = events ++ next ∷ [] in
@@ -100,10 +100,10 @@ module _ (events : List ClientEvent) (standings : List (Request × Standing)) (a
       ]
 
   -- a read is acknowledged
-  pub acked_read-refused : (request : Request) (key : Key) (least : Option Cell) → Some (Reading key least) ≡ standing_of standings request → IsRegisterRun (events ++ WriteAcked request ∷ []) → ⊥
+  pub acked_read-refused : (request : Request) (key : Key) (least : Option Cell) → Some (Reading key least) ≡ standing_of seen.standings request → IsRegisterRun (events ++ WriteAcked request ∷ []) → ⊥
   acked_read-refused request key least e run =
       let next : ClientEvent = WriteAcked request in
-      let r = reading events standings acked writes kept request key least e in
+      let r = reading events seen kept request key least e in
       let w : WriteBeganBefore (events ++ next ∷ []) (length events) request = run.ends_open.begun (length events) next (stands-last events next) in
       let stands : slice_get (events ++ next ∷ []) r.at ≡ Some (ReadBegun request key) = stands-more events (next ∷ []) r.at (ReadBegun request key) r.stands in
       let at : w.at ≡ r.at = run.begins_once w.at r.at request (record { event = WriteBegun request w.key w.cell; stands = w.stands; begins = refl }) (record { event = ReadBegun request key; stands = stands; begins = refl }) in
@@ -111,36 +111,36 @@ module _ (events : List ClientEvent) (standings : List (Request × Standing)) (a
       cc
 
   -- a write returns as a read
-  pub read_write-refused : (request : Request) (key : Key) (written : Cell) (cell : Option Cell) → Some (Writing key written) ≡ standing_of standings request → IsRegisterRun (events ++ ReadOk request cell ∷ []) → ⊥
+  pub read_write-refused : (request : Request) (key : Key) (written : Cell) (cell : Option Cell) → Some (Writing key written) ≡ standing_of seen.standings request → IsRegisterRun (events ++ ReadOk request cell ∷ []) → ⊥
   read_write-refused request key written cell e run =
       let next : ClientEvent = ReadOk request cell in
-      let w = writing events standings acked writes kept request key written e in
+      let w = writing events seen kept request key written e in
       let r : ReadBeganBefore (events ++ next ∷ []) (length events) request = run.ends_open.begun (length events) next (stands-last events next) in
       let stands : slice_get (events ++ next ∷ []) w.at ≡ Some (WriteBegun request key written) = stands-more events (next ∷ []) w.at (WriteBegun request key written) w.stands in
       let at : r.at ≡ w.at = run.begins_once r.at w.at request (record { event = ReadBegun request r.key; stands = r.stands; begins = refl }) (record { event = WriteBegun request key written; stands = stands; begins = refl }) in
       let wrong : Some (ReadBegun request r.key) ≡ Some (WriteBegun request key written) = sym r.stands ∙ ap (slice_get (events ++ next ∷ [])) at ∙ stands in
       cc
 
-  module _ (request : Request) (key : Key) (least : Option Cell) (e : Some (Reading key least) ≡ standing_of standings request) where
+  module _ (request : Request) (key : Key) (least : Option Cell) (e : Some (Reading key least) ≡ standing_of seen.standings request) where
     -- a read that may go on so returns what it may return
     read-above : (cell : Option Cell) → IsRegisterRun (events ++ ReadOk request cell ∷ []) → is_not_below cell least ≡ true
     read-above cell run =
         let next : ClientEvent = ReadOk request cell in
-        let r = reading events standings acked writes kept request key least e in
+        let r = reading events seen kept request key least e in
         (r.greatest cell).1 (λ written b. run.reads_not_below b.wrote b.acked r.at (length events) b.writer request key written cell (stands-more events (next ∷ []) b.wrote (WriteBegun b.writer key written) b.writes) (stands-more events (next ∷ []) b.acked (WriteAcked b.writer) b.acks) b.earlier (stands-more events (next ∷ []) r.at (ReadBegun request key) r.stands) (stands-last events next))
 
-    read-written : (cell : Option Cell) → IsRegisterRun (events ++ ReadOk request cell ∷ []) → is_none_or_written writes key cell ≡ true
+    read-written : (cell : Option Cell) → IsRegisterRun (events ++ ReadOk request cell ∷ []) → is_none_or_written seen.written key cell ≡ true
     read-written None run = refl
     read-written (Some cell) run =
         let next : ClientEvent = ReadOk request (Some cell) in
-        let r = reading events standings acked writes kept request key least e in
+        let r = reading events seen kept request key least e in
         let w = run.reads_written r.at (length events) request key cell (stands-more events (next ∷ []) r.at (ReadBegun request key) r.stands) (stands-last events next) in
         elim (written-split events next (length events) key cell w) [
           | inl before ↦ (kept.written key cell).1 before
           | inr last ↦ let wrong : WriteBegun last.0 key cell ≡ ReadOk request (Some cell) = last.1 in cc
         ]
 
-    pub read-refused : (cell : Option Cell) → (is_not_below cell least && is_none_or_written writes key cell) ≡ false → IsRegisterRun (events ++ ReadOk request cell ∷ []) → ⊥
+    pub read-refused : (cell : Option Cell) → (is_not_below cell least && is_none_or_written seen.written key cell) ≡ false → IsRegisterRun (events ++ ReadOk request cell ∷ []) → ⊥
     read-refused cell barred run =
         let above = read-above cell run in
         let known = read-written cell run in

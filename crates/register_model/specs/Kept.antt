@@ -9,7 +9,7 @@ use Rattle.register_model.specs.declared.data.Key.{Key}
 use Rattle.register_model.specs.declared.data.Request.{Request}
 use Rattle.register_model.specs.declared.known.Standing.{Standing}
 use Rattle.register_model.specs.declared.known.Standing.TheVariants.{Writing, Reading, Done}
-use Rattle.register_model.specs.declared.known.Write.{Write}
+use Rattle.register_model.specs.declared.seen.Seen.{Seen}
 use Rattle.register_model.specs.Known.{standing_of, acked_of, is_written}
 use Rattle.register_model.specs.Register.{Stands, BeginsAt, EndsAt, WrittenBefore, IsRegisterRun}
 
@@ -25,7 +25,9 @@ pub record AckedBefore (events : List ClientEvent) (place : ℕ) (key : Key) (ce
 -- a cell is not below this one exactly where it is below none that was acknowledged before this place
 abbrev pub IsGreatestAcked : List ClientEvent → ℕ → Key → Option Cell → Type 0
 IsGreatestAcked events place key greatest =
-    (cell : Option Cell) → IsNotBelow cell greatest ↔ ((written : Cell) → AckedBefore events place key written → IsNotBelow cell (Some written))
+    (cell : Option Cell) →
+    IsNotBelow cell greatest
+    ↔ ((written : Cell) → AckedBefore events place key written → IsNotBelow cell (Some written))
 
 -- no event begins, or ends, the request
 abbrev pub IsUnbegun : List ClientEvent → Request → Type 0
@@ -61,15 +63,21 @@ StandsSo events request (Some (Writing key cell)) = IsWriting events request key
 StandsSo events request (Some (Reading key least)) = IsReading events request key least
 StandsSo events request (Some Done) = IsDone events request
 
--- the events are a run, and this is kept of them
-pub record IsKept (events : List ClientEvent) (standings : List (Request × Standing)) (acked : List (Key × Cell)) (writes : List Write) : Type 0 where
+-- the events are a run, and this is what was kept of them
+pub record IsKept (events : List ClientEvent) (seen : Seen) : Type 0 where
   pub run : IsRegisterRun events
-  pub standing : (request : Request) → StandsSo events request (standing_of standings request)
-  pub greatest : (key : Key) → IsGreatestAcked events (length events) key (acked_of acked key)
-  pub written : (key : Key) (cell : Cell) → is_written writes key cell ≡ true ↔ WrittenBefore events (length events) key cell
+  pub standing : (request : Request) → StandsSo events request (standing_of seen.standings request)
+  pub greatest : (key : Key) → IsGreatestAcked events (length events) key (acked_of seen.acked key)
+  pub written :
+      (key : Key) (cell : Cell) →
+      is_written seen.written key cell ≡ true ↔ WrittenBefore events (length events) key cell
 
--- with this event the run goes on, and that is kept of it; or there is no run that goes on so
-abbrev pub GoesOn : List ClientEvent → ClientEvent → List (Request × Standing) → List (Key × Cell) → List Write → Result Bool NoMemory → Type 0
-GoesOn events event standings acked writes (Ok true) = IsKept (events ++ event ∷ []) standings acked writes
-GoesOn events event standings acked writes (Ok false) = IsRegisterRun (events ++ event ∷ []) → ⊥
-GoesOn events event standings acked writes (Err refused) = Unit {0}
+-- with this event the run goes on, and that is what is kept then; or no run goes on with it
+abbrev pub GoesOn : List ClientEvent → ClientEvent → Seen → Result Bool NoMemory → Type 0
+GoesOn events event new (Ok true) = IsKept (events ++ event ∷ []) new
+GoesOn events event new (Ok false) = IsRegisterRun (events ++ event ∷ []) → ⊥
+GoesOn events event new (Err refused) = Unit {0}
+
+-- so it is of whatever events the old one was kept
+abbrev pub Judges : Seen → ClientEvent → Seen → Result Bool NoMemory → Type 0
+Judges old event new result = (events : List ClientEvent) → IsKept events old → GoesOn events event new result

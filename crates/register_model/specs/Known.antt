@@ -1,20 +1,25 @@
 -- What the checker keeps of the events seen so far, as functions of a request, of a key and of a write.
-use Rattle.std.specs.Prelude.{Bool, true, Option, Some, None, List}
+use Rattle.std.specs.Prelude.{◌≡◌, Bool, true, Option, Some, None, List, if◌then◌else◌}
 use Rattle.std.specs.List.{list_any}
 use Rattle.std.specs.Map.{lookup}
 use Rattle.std.specs.Ordering.{nat_cmp, int_cmp, ordering_then, is_eq, on, then_cmp}
 use Rattle.std.specs.declared.cmp.Ordering.{Ordering}
-use Rattle.cell_merge.specs.Cell.{cell_order}
+use Rattle.base_ids.specs.declared.ids.LaneId.{LaneId}
+use Rattle.cell_merge.specs.Cell.{cell_order, greater_cell}
 use Rattle.cell_merge.specs.declared.cell.Cell.{Cell}
 use Rattle.register_model.specs.declared.data.Key.{Key}
 use Rattle.register_model.specs.declared.data.Request.{Request}
 use Rattle.register_model.specs.declared.known.Standing.{Standing}
 use Rattle.register_model.specs.declared.known.Write.{Write}
 
--- by host, on a host by lane, and in a lane by number
+-- by host, and on a host by number
+abbrev pub lane_order : LaneId → LaneId → Ordering
+lane_order a b = ordering_then (nat_cmp a.host.0 b.host.0) (nat_cmp a.lane b.lane)
+
+-- by lane, and in a lane by number
 abbrev pub request_order : Request → Request → Ordering
 request_order a b =
-    ordering_then (ordering_then (nat_cmp a.lane.host.0 b.lane.host.0) (nat_cmp a.lane.lane b.lane.lane)) (nat_cmp a.op.0 b.op.0)
+    ordering_then (lane_order a.lane b.lane) (nat_cmp a.op.0 b.op.0)
 
 -- whether the two are one request
 abbrev pub is_request : Request → Request → Bool
@@ -31,7 +36,8 @@ is_key a b = is_eq (key_order a b)
 -- by table, by token, and at one key by cell
 abbrev pub write_order : Write → Write → Ordering
 write_order =
-    then_cmp (on (λ w. w.key.table.0) nat_cmp) (then_cmp (on (λ w. w.key.token.value) int_cmp) (on (λ w. w.cell) cell_order))
+    then_cmp (on (λ w. w.key.table.0) nat_cmp)
+    (then_cmp (on (λ w. w.key.token.value) int_cmp) (on (λ w. w.cell) cell_order))
 
 -- whether the two write one cell to one key
 abbrev pub is_write : Write → Write → Bool
@@ -53,3 +59,22 @@ is_written writes key cell = list_any (is_write (record { key = key; cell = cell
 abbrev pub is_none_or_written : List Write → Key → Option Cell → Bool
 is_none_or_written writes key None = true
 is_none_or_written writes key (Some cell) = is_written writes key cell
+
+-- this request stands so now, and the others as before
+abbrev pub SetsStanding : List (Request × Standing) → List (Request × Standing) → Request → Standing → Type 0
+SetsStanding old new request standing =
+    (other : Request) →
+    standing_of new other ≡ (if is_request request other then Some standing else standing_of old other)
+
+-- this cell of this key is acknowledged now
+abbrev pub RaisesAcked : List (Key × Cell) → List (Key × Cell) → Key → Cell → Type 0
+RaisesAcked old new key cell =
+    (other : Key) →
+    acked_of new other ≡ (if is_key key other then greater_cell (acked_of old key) (Some cell) else acked_of old other)
+
+-- this cell is written to this key now
+abbrev pub AddsWrite : List Write → List Write → Key → Cell → Type 0
+AddsWrite old new key cell =
+    (k : Key) (c : Cell) →
+    is_written new k c
+    ≡ (if is_write (record { key = key; cell = cell }) (record { key = k; cell = c }) then true else is_written old k c)

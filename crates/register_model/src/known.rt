@@ -1,10 +1,9 @@
 // What is kept of the events seen so far, each part under its order.
-ghost use Rattle.std.specs.Prelude.{◌≡◌, [], Some, true, OnOk, if◌then◌else◌};
+ghost use Rattle.std.specs.Prelude.{◌≡◌, [], OnOk};
 ghost use Rattle.std.specs.Option.{option_copied};
 ghost use Rattle.std.specs.Cmp.{partial_order_from_total, eq_by_cmp_equiv, partial_equiv_from_equiv};
 ghost use Rattle.std.specs.Ordering.{eq_by_cmp, as_partial_cmp};
-ghost use Rattle.cell_merge.specs.Cell.{greater_cell};
-ghost use Rattle.register_model.specs.Known.{is_request, is_key, standing_of, acked_of, is_write, is_written, write_order};
+ghost use Rattle.register_model.specs.Known.{standing_of, acked_of, is_written, write_order, SetsStanding, RaisesAcked, AddsWrite};
 
 use crate::data::{Key, Request};
 use base_ids::NoMemory;
@@ -70,12 +69,19 @@ impl Standings {
 
     /// The request stands so from now on.
     pub fn set(&mut self, request: &Request, standing: Standing) -> Result<(), NoMemory>
-        ensures { OnOk result ((other : _) → standing_of self.new other ≡ (if is_request request.now other then Some standing else standing_of self.old other)) }
+        ensures { OnOk result (SetsStanding self.old self.new request.now standing) }
     {
         // the types inside a standing are named here, so that the check finds them
         let _inside: Option<(&Cell, &Body)> = None;
         self.standings.insert(*request, standing)?;
         Ok(())
+    }
+
+    /// The request has ended.
+    pub fn end(&mut self, request: &Request) -> Result<(), NoMemory>
+        ensures { OnOk result (SetsStanding self.old self.new request.now Standing.Done) }
+    {
+        self.set(request, Standing::Done)
     }
 }
 
@@ -114,7 +120,7 @@ impl Acked {
 
     /// A write of the cell to the key is acknowledged.
     pub fn raise(&mut self, key: &Key, cell: &Cell) -> Result<(), NoMemory>
-        ensures { OnOk result ((other : _) → acked_of self.new other ≡ (if is_key key.now other then greater_cell (acked_of self.old key.now) (Some cell.now) else acked_of self.old other)) }
+        ensures { OnOk result (RaisesAcked self.old self.new key.now cell.now) }
     {
         let greatest = match merge(self.get(key), Some(cell)) {
             Some(greatest) => *greatest,
@@ -223,7 +229,7 @@ impl Written {
 
     /// The cell is written to the key.
     pub fn add(&mut self, key: &Key, cell: &Cell) -> Result<(), NoMemory>
-        ensures { OnOk result ((k : _) (c : _) → is_written self.new k c ≡ (if is_write (record { key = key.now; cell = cell.now }) (record { key = k; cell = c }) then true else is_written self.old k c)) }
+        ensures { OnOk result (AddsWrite self.old self.new key.now cell.now) }
     {
         // the types inside a cell are named here, so that the check finds them
         let _inside: Option<&Body> = None;

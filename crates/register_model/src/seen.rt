@@ -1,9 +1,8 @@
 // The events seen so far, as far as the next one is judged by them.
-ghost use Rattle.std.specs.Prelude.{◌≡◌, ◌&&◌, [], List};
+ghost use Rattle.std.specs.Prelude.{◌≡◌, ◌&&◌, []};
 ghost use Rattle.std.specs.Option.{option_copied};
 ghost use Rattle.cell_merge.specs.Cell.{is_not_below};
-ghost use Rattle.register_model.specs.declared.data.ClientEvent.{ClientEvent};
-ghost use Rattle.register_model.specs.Kept.{IsKept, GoesOn};
+ghost use Rattle.register_model.specs.Kept.{IsKept, Judges};
 ghost use Rattle.register_model.specs.Known.{is_none_or_written};
 
 use crate::data::{ClientEvent, Key, Request};
@@ -27,7 +26,7 @@ pub struct Seen {
 impl Seen {
     /// No event was seen.
     pub fn new(alloc: Global) -> Seen
-        ensures { IsKept [] result.standings result.acked result.written }
+        ensures { IsKept [] result }
     {
         Seen {
             standings: Standings::new(alloc),
@@ -36,9 +35,10 @@ impl Seen {
         }
     }
 
-    /// Sees one event more: whether what was seen is a run with it too. After `false` nothing more is said.
+    /// Sees one event more: whether what was seen is a run with it too. After `false` or `NoMemory` nothing is said of
+    /// what is kept.
     pub fn take(&mut self, event: &ClientEvent) -> Result<bool, NoMemory>
-        ensures { (events : List ClientEvent) → IsKept events self.old.standings self.old.acked self.old.written → GoesOn events event.now self.new.standings self.new.acked self.new.written result }
+        ensures { Judges self.old event.now self.new result }
     {
         match event {
             ClientEvent::WriteBegun { request, key, cell } => self.begin_write(request, key, cell),
@@ -51,7 +51,7 @@ impl Seen {
 
     /// A write begins.
     fn begin_write(&mut self, request: &Request, key: &Key, cell: &Cell) -> Result<bool, NoMemory>
-        ensures { (events : List ClientEvent) → IsKept events self.old.standings self.old.acked self.old.written → GoesOn events (ClientEvent.WriteBegun request.now key.now cell.now) self.new.standings self.new.acked self.new.written result }
+        ensures { Judges self.old (ClientEvent.WriteBegun request.now key.now cell.now) self.new result }
     {
         match self.standings.get(request) {
             Some(_) => Ok(false),
@@ -69,12 +69,12 @@ impl Seen {
 
     /// A write is acknowledged.
     fn acknowledge(&mut self, request: &Request) -> Result<bool, NoMemory>
-        ensures { (events : List ClientEvent) → IsKept events self.old.standings self.old.acked self.old.written → GoesOn events (ClientEvent.WriteAcked request.now) self.new.standings self.new.acked self.new.written result }
+        ensures { Judges self.old (ClientEvent.WriteAcked request.now) self.new result }
     {
         match self.standings.get(request) {
             Some(Standing::Writing { key, cell }) => {
                 self.acked.raise(key, cell)?;
-                self.standings.set(request, Standing::Done)?;
+                self.standings.end(request)?;
                 Ok(true)
             }
             Some(Standing::Reading { .. }) => Ok(false),
@@ -85,7 +85,7 @@ impl Seen {
 
     /// A read begins.
     fn begin_read(&mut self, request: &Request, key: &Key) -> Result<bool, NoMemory>
-        ensures { (events : List ClientEvent) → IsKept events self.old.standings self.old.acked self.old.written → GoesOn events (ClientEvent.ReadBegun request.now key.now) self.new.standings self.new.acked self.new.written result }
+        ensures { Judges self.old (ClientEvent.ReadBegun request.now key.now) self.new result }
     {
         match self.standings.get(request) {
             Some(_) => Ok(false),
@@ -102,14 +102,14 @@ impl Seen {
 
     /// A read returns.
     fn end_read(&mut self, request: &Request, cell: &Option<Cell>) -> Result<bool, NoMemory>
-        ensures { (events : List ClientEvent) → IsKept events self.old.standings self.old.acked self.old.written → GoesOn events (ClientEvent.ReadOk request.now cell.now) self.new.standings self.new.acked self.new.written result }
+        ensures { Judges self.old (ClientEvent.ReadOk request.now cell.now) self.new result }
     {
         match self.standings.get(request) {
             Some(Standing::Reading { key, least }) => {
                 if !self.may_return(key, least, cell) {
                     return Ok(false);
                 }
-                self.standings.set(request, Standing::Done)?;
+                self.standings.end(request)?;
                 Ok(true)
             }
             Some(Standing::Writing { .. }) => Ok(false),
@@ -120,15 +120,15 @@ impl Seen {
 
     /// A request ends with neither.
     fn end(&mut self, request: &Request) -> Result<bool, NoMemory>
-        ensures { (events : List ClientEvent) → IsKept events self.old.standings self.old.acked self.old.written → GoesOn events (ClientEvent.Ended request.now) self.new.standings self.new.acked self.new.written result }
+        ensures { Judges self.old (ClientEvent.Ended request.now) self.new result }
     {
         match self.standings.get(request) {
             Some(Standing::Writing { .. }) => {
-                self.standings.set(request, Standing::Done)?;
+                self.standings.end(request)?;
                 Ok(true)
             }
             Some(Standing::Reading { .. }) => {
-                self.standings.set(request, Standing::Done)?;
+                self.standings.end(request)?;
                 Ok(true)
             }
             Some(Standing::Done) => Ok(false),

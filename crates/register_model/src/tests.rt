@@ -21,8 +21,9 @@ fn live(timestamp: i64, bytes: &[u8]) -> Result<Cell, Fail> {
     })
 }
 
-// A key is written, then read twice while its tablet moves; the second read returns `last`.
-fn history(last: Option<Cell>) -> Result<[ClientEvent; 6], Fail> {
+// A key is written, then read twice while its tablet moves; the second read returns `last`. Two other requests end
+// with neither.
+fn history(last: Option<Cell>) -> Result<[ClientEvent; 10], Fail> {
     let key = Key {
         table: TableId(1),
         token: Token::new(7).ok_or("no token")?,
@@ -45,9 +46,24 @@ fn history(last: Option<Cell>) -> Result<[ClientEvent; 6], Fail> {
             request: request(1, 1),
             cell: Some(live(1, b"a")?),
         },
+        ClientEvent::WriteBegun {
+            request: request(2, 1),
+            key,
+            cell: live(2, b"b")?,
+        },
+        ClientEvent::Ended {
+            request: request(2, 1),
+        },
         ClientEvent::ReadBegun {
             request: request(0, 2),
             key,
+        },
+        ClientEvent::ReadBegun {
+            request: request(2, 2),
+            key,
+        },
+        ClientEvent::Ended {
+            request: request(2, 2),
         },
         ClientEvent::ReadOk {
             request: request(0, 2),

@@ -48,7 +48,10 @@ fn requests_below_the_fence_are_refused(rt: HostRuntime) -> Result<(), Fail> {
     assert_eq!(rt; store.get(TableId(1), token), None);
     assert_eq!(rt; serve_read(&store, Version(3), &read).said, stale);
     store.reserve(1)?;
-    assert_eq!(rt; serve_write(&mut store, Version(2), &write).said, Said::Written);
+    assert_eq!(rt;
+        serve_write(&mut store, Version(2), &write).said,
+        Said::Written
+    );
     let answer = serve_read(&store, Version(2), &read);
     assert_eq!(rt; answer.said, Said::Found(Some(CELL)));
     assert_eq!(rt; answer.from, REPLICA);

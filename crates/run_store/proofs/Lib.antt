@@ -3,3 +3,6 @@ pub mod GroupLemmas
 pub mod ChunkLemmas
 pub mod LoopLemmas
 pub mod RegroupLemmas
+pub mod TabletLemmas
+pub mod StoreLemmas
+pub mod AdoptLemmas

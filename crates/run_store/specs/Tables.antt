@@ -1,5 +1,5 @@
 -- A store of tables that have runs of their own, and of one sorted list for the rest.
-use Rattle.std.specs.Prelude.{◌≡◌, ℕ, suc, ◌≤◌, ◌==◌, ◌^◌, not, List, [], ◌∷◌, filter, min, if◌then◌else◌}
+use Rattle.std.specs.Prelude.{◌≡◌, ℕ, suc, ◌≤◌, ◌==◌, ◌^◌, not, List, [], ◌∷◌, map, filter, min, if◌then◌else◌}
 use Rattle.base_ids.specs.declared.ids.TableId.{TableId}
 use Rattle.replica_store.specs.Cells.{Cells, IsOrdered}
 use Rattle.replica_store.specs.Columns.{put_at}
@@ -66,3 +66,12 @@ log2_of (p ∷ ps) table = if p.0.0 == table.0 then p.1 else log2_of ps table
 abbrev pub least_room : List Grouped → ℕ
 least_room [] = 2 ^ 64
 least_room (g ∷ gs) = min g.spare (least_room gs)
+
+-- what is in the parts of a store: tables with runs, and the rest in order
+pub record IsLaid (tables : List Grouped) (others : Cells) : Type 0 where
+  pub each : AreTables tables
+  pub rest : IsOrdered others
+
+-- the logarithms of the run counts of tables with runs of their own
+abbrev pub log2s_of : List Grouped → List (TableId × ℕ)
+log2s_of tables = map (λ g. (g.table, g.log2)) tables

@@ -5,6 +5,11 @@ mod chunks;
 mod regrouping;
 mod run;
 mod runs;
+mod store;
 mod table;
+mod tables;
 
-pub use table::TableRuns;
+pub use store::RunStore;
+
+#[cfg(test)]
+mod tests;

@@ -5,7 +5,6 @@ ghost use Rattle.token_ring.specs.Ring.{tablet_at};
 ghost use Rattle.replica_store.specs.Cells.{IsOrdered, cell_at, range_cells, outside};
 ghost use Rattle.replica_store.specs.Columns.{put_at};
 ghost use Rattle.run_store.specs.Runs.{of_table, tablet_cells};
-ghost use Rattle.run_store.specs.Tables.{IsTable};
 
 use crate::run::Run;
 use crate::{chunks, regrouping, runs};
@@ -42,7 +41,6 @@ impl TableRuns {
         ensures table { IfOk result (λ t. t.table ≡ table) }
         ensures log2 { IfOk result (λ t. t.log2 ≡ 0) }
         ensures cells { IfOk result (λ t. t.cells ≡ of_table table cells.now) }
-        ensures is { IfOk result IsTable }
     {
         let runs = runs::single(alloc, cells)?;
         Ok(TableRuns {
@@ -133,6 +131,7 @@ impl TableRuns {
         requires { self.old.log2 < 10 }
         ensures table { self.new.table ≡ self.old.table }
         ensures cells { self.new.cells ≡ self.old.cells }
+        ensures few { self.new.log2 ≤ 10 }
         ensures ok { OnOk result (self.new.log2 ≡ self.old.log2 + 1) }
         ensures err { OnErr result (self.new ≡ self.old) }
     {
@@ -146,6 +145,7 @@ impl TableRuns {
         requires { 0 < self.old.log2 }
         ensures table { self.new.table ≡ self.old.table }
         ensures cells { self.new.cells ≡ self.old.cells }
+        ensures few { self.new.log2 ≤ 10 }
         ensures ok { OnOk result (self.new.log2 + 1 ≡ self.old.log2) }
         ensures err { OnErr result (self.new ≡ self.old) }
     {
@@ -160,12 +160,5 @@ impl TableRuns {
         ensures { result.now ≡ tablet_cells self.now.cells self.now.table self.now.log2 tablet }
     {
         self.runs[tablet].as_slice()
-    }
-
-    /// What holds of each such table.
-    pub fn law_is_table(&self)
-        ensures { IsTable self.now }
-    {
-        let _runs = &self.runs;
     }
 }

@@ -106,11 +106,7 @@ impl Pull {
         ensures none { IsNone result ↔ IsTrue self.now.done }
         ensures ask { IfSome result (λ ask. ask ≡ next_ask self.now) }
     {
-        if self.done {
-            None
-        } else {
-            Some(self.ask())
-        }
+        if self.done { None } else { Some(self.ask()) }
     }
 
     /// What would become of a chunk: `Foreign` exactly where its session or `after` is not the pull's or the pull is done,

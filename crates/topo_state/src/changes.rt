@@ -163,7 +163,13 @@ fn finalize_at(alloc: Global, tables: &mut [Table], at: usize) -> Result<(), NoM
 }
 
 /// Carries out the decision of a table.
-fn finalize(alloc: Global, tables: &mut [Table], id: TableId, seq: Session, index: u64) -> Result<(), NoMemory>
+fn finalize(
+    alloc: Global,
+    tables: &mut [Table],
+    id: TableId,
+    seq: Session,
+    index: u64,
+) -> Result<(), NoMemory>
     requires { IsChange tables.old (Command.FinalizeResize id seq) }
     ensures ok { OnOk result (tables.new ≡ tables_after (Command.FinalizeResize id seq) index tables.old) }
     ensures err { OnErr result (tables.new ≡ tables.old) }
@@ -183,7 +189,14 @@ fn add_table(tables: &mut Vec<Table>, table: Table) -> Result<(), NoMemory>
 }
 
 /// Makes a table.
-fn create(alloc: Global, tables: &mut Vec<Table>, id: TableId, log2: u8, replicas: &[Replica], index: u64) -> Result<(), NoMemory>
+fn create(
+    alloc: Global,
+    tables: &mut Vec<Table>,
+    id: TableId,
+    log2: u8,
+    replicas: &[Replica],
+    index: u64,
+) -> Result<(), NoMemory>
     requires { IsChange tables.old.items (Command.CreateTable id log2 replicas.now) }
     ensures ok { OnOk result (tables.new.items ≡ tables_after (Command.CreateTable id log2 replicas.now) index tables.old.items) }
     ensures err { OnErr result (tables.new.items ≡ tables.old.items) }
@@ -199,7 +212,12 @@ fn create(alloc: Global, tables: &mut Vec<Table>, id: TableId, log2: u8, replica
 }
 
 /// Changes the tables as the command says.
-pub(crate) fn change_tables(alloc: Global, tables: &mut Vec<Table>, command: &Command, index: u64) -> Result<(), NoMemory>
+pub(crate) fn change_tables(
+    alloc: Global,
+    tables: &mut Vec<Table>,
+    command: &Command,
+    index: u64,
+) -> Result<(), NoMemory>
     requires { IsChange tables.old.items command.now }
     ensures ok { OnOk result (tables.new.items ≡ tables_after command.now index tables.old.items) }
     ensures err { OnErr result (tables.new.items ≡ tables.old.items) }
@@ -216,7 +234,14 @@ pub(crate) fn change_tables(alloc: Global, tables: &mut Vec<Table>, command: &Co
             leaving,
             pending,
         } => {
-            start(tables.as_mut_slice(), *table, *tablet, *leaving, *pending, index);
+            start(
+                tables.as_mut_slice(),
+                *table,
+                *tablet,
+                *leaving,
+                *pending,
+                index,
+            );
             Ok(())
         }
         Command::Advance { session, to } => {
@@ -265,7 +290,11 @@ fn left(alloc: Global, members: &[HostId], host: HostId) -> Result<Vec<HostId>, 
 }
 
 /// The members after the command.
-pub(crate) fn members_after(alloc: Global, members: &[HostId], command: &Command) -> Result<Vec<HostId>, NoMemory>
+pub(crate) fn members_after(
+    alloc: Global,
+    members: &[HostId],
+    command: &Command,
+) -> Result<Vec<HostId>, NoMemory>
     ensures { IfOk result (λ list. list.items ≡ members_after command.now members.now) }
 {
     match command {

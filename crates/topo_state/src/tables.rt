@@ -62,9 +62,7 @@ fn table_has_session(table: &Table, session: Session) -> bool
 pub(crate) fn any_has_session(tables: &[Table], session: Session) -> bool
     ensures { result ≡ any_tablet (has_session session) tables.now }
 {
-    tables
-        .iter()
-        .any(|table| table_has_session(table, session))
+    tables.iter().any(|table| table_has_session(table, session))
 }
 
 /// Whether the tablet's transition, where it has the session, may go there.
@@ -92,9 +90,7 @@ fn table_may_go(table: &Table, session: Session, to: Option<Stage>) -> bool
 pub(crate) fn every_may_go(tables: &[Table], session: Session, to: Option<Stage>) -> bool
     ensures { result ≡ every_tablet (may_go session to) tables.now }
 {
-    tables
-        .iter()
-        .all(|table| table_may_go(table, session, to))
+    tables.iter().all(|table| table_may_go(table, session, to))
 }
 
 /// Whether a tablet has a replica or a pending replica on the host.

@@ -1,35 +1,8 @@
 use Rattle.cluster_cli.specs.Play.{played}
 use Rattle.cluster_cli.specs.Program.{play_ending}
-use Rattle.cluster_cli.proofs.EndingLemmas.{came-played, came-stopped, came-starved}
+use Rattle.cluster_cli.proofs.EndingLemmas.{came-unopened}
 use Rattle.cluster_cli.proofs.program.play_schedule.Goals as goal
 
-pub returns-in-Ok-play-clause-came : goal.returns-in-Ok-play-clause-came
-returns-in-Ok-play-clause-came g c =
-    came-played (played c.args.schedule.now) _ _ _ _ _ _ _ c.in-Ok-play.ensures c.into_journal.ensures.same c.report_whole.ensures.came
-
-pub returns-in-Err-NotEnabled-clause-came : goal.returns-in-Err-NotEnabled-clause-came
-returns-in-Err-NotEnabled-clause-came g c =
-    came-stopped
-    c.in-Err-NotEnabled.field-0
-    c.in-Err-NotEnabled.line
-    c.in-Err-NotEnabled.rule
-    (played c.args.schedule.now)
-    _
-    _
-    _
-    _
-    _
-    _
-    _
-    c.in-Err-NotEnabled.ensures
-    c.in-Err-NotEnabled.field-0-is
-    c.into_journal-in-Err-NotEnabled.ensures.same
-    c.report_stop.ensures.came
-
-pub returns-in-Err-NoMemory-clause-came : goal.returns-in-Err-NoMemory-clause-came
-returns-in-Err-NoMemory-clause-came g c =
-    came-starved (play_ending (played c.args.schedule.now)) _ _ _ _ c.starved-in-Err-NoMemory.ensures
-
-pub returns-in_default-clause-came : goal.returns-in_default-clause-came
-returns-in_default-clause-came g c =
-    came-starved (play_ending (played c.args.schedule.now)) _ _ _ _ c.starved.ensures
+pub returns-in-Err-clause-came : goal.returns-in-Err-clause-came
+returns-in-Err-clause-came g c =
+    came-unopened (play_ending (played c.args.schedule.now)) _ _ _ c.starved.ensures c.no_journal.ensures

@@ -12,8 +12,6 @@ returns-in-Err-Refused-clause-came g c =
     _
     _
     _
-    _
-    _
     c.in-Err-Refused.ensures.exact
     c.in-Err-Refused.field-0-is
     c.refuse.ensures.came

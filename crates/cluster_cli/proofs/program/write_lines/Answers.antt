@@ -1,14 +1,14 @@
 use Rattle.std.proofs.Common.{rules}
-use Rattle.cluster_cli.proofs.WritingLemmas.{after_held-line, part-of-lines, on-err}
+use Rattle.cluster_cli.proofs.WritingLemmas.{content_after-line, part-of-lines, on-err}
 use Rattle.cluster_cli.proofs.program.write_lines.Goals as goal
 
 pub returns-in_err-write_all-clause-part : goal.returns-in_err-write_all-clause-part
 returns-in_err-write_all-clause-part g c =
     on-err c.from_residual.result
     (part-of-lines
-    _
-    _
-    _
+    (g.K.Sink.account c.args.sink.now)
+    (g.K.Sink.account c.loop-line.sink)
+    (g.K.Sink.account c.write_all.new.sink)
     c.args.lines.now
     c.loop-line.line-index
     c.line-item.result
@@ -19,7 +19,7 @@ returns-in_err-write_all-clause-part g c =
 
 pub loop-line-preserved : goal.loop-line-preserved
 loop-line-preserved g c = record {
-  written = after_held-line
+  written = content_after-line
       _
       _
       _
@@ -30,5 +30,5 @@ loop-line-preserved g c = record {
       c.line-item.is
       c.loop-line.invariant.written
       (rw c.as_slice.ensures at c.in_ok-write_all.ensures.whole);
-  later = search rules;
+  quiet = search rules;
 }

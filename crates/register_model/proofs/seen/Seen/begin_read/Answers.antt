@@ -9,8 +9,8 @@ use Rattle.register_model.proofs.seen.Seen.begin_read.Goals as goal
 
 pub returns-in-Some : goal.returns-in-Some
 returns-in-Some c = λ events kept.
-    begun-refused events _ _ _ kept (ReadBegun c.args.request.now c.args.key.now) c.args.request.now c.in-Some.field-0.now refl c.in-Some.ensures
+    begun-refused events _ kept (ReadBegun c.args.request.now c.args.key.now) c.args.request.now c.in-Some.field-0.now refl c.in-Some.ensures
 
 pub returns-in_ok-set-in-None : goal.returns-in_ok-set-in-None
 returns-in_ok-set-in-None c = λ events kept.
-    begin_read-kept events _ _ _ kept c.args.request.now c.args.key.now c.set.new.self c.in-None.ensures (λ q. c.in_ok-set-in-None.ensures q ∙ ap (λ (least : Option Cell). if is_request c.args.request.now q then Some (Reading c.args.key.now least) else standing_of c.args.self.now.standings q) (c.copied.ensures ∙ c.get-in-None.ensures))
+    begin_read-kept events _ kept c.args.request.now c.args.key.now c.set.new.self c.in-None.ensures (λ q. c.in_ok-set-in-None.ensures q ∙ ap (λ (least : Option Cell). if is_request c.args.request.now q then Some (Reading c.args.key.now least) else standing_of c.args.self.now.standings q) (c.copied.ensures ∙ c.get-in-None.ensures))

@@ -1,0 +1,247 @@
+ghost use Rattle.std.specs.Prelude.{◌≡◌, ◌+◌, ◌<◌, ◌^◌, length, None, Some, IfOk, IfSome, MatchResult};
+ghost use Rattle.request_table.specs.Requests.{is_live_below};
+ghost use Rattle.lane_core.specs.Lane.{lane_first, lane_restarted, next_op, begin_rule, lane_rule, lane_after, lane_out, with_next, live_with, IsFor};
+
+use crate::data::{LaneInput, LaneOut};
+use crate::making::{made_given_up, made_read, made_taking, made_write};
+use crate::work::Work;
+use base_ids::{EventRule, LaneId, NoMemory, OpId, Version};
+use meta_snap::Snapshot;
+use request_table::RequestTable;
+use shared_value::Shared;
+use std::alloc::Global;
+use std::marker::Model;
+
+/// What is made ahead of an event.
+#[derive(Drop)]
+pub(crate) struct Made {
+    /// What the lane gives out.
+    pub(crate) out: LaneOut,
+    /// The work that the request is left with.
+    pub(crate) work: Option<Work>,
+}
+
+/// An input for which all memory is there. Callers see it as that input.
+#[derive(Drop)]
+pub struct Prepared {
+    input: LaneInput,
+}
+
+impl Model for Prepared {
+    ghost use Rattle.lane_core.specs.declared.data.LaneInput.{LaneInput};
+
+    ghost Value = { LaneInput };
+
+    ghost view = { λ p. p.input };
+}
+
+/// A lane. Callers see it as plain data, and beside it what was prepared.
+#[derive(Drop)]
+pub struct LaneCore {
+    alloc: Global,
+    lane: LaneId,
+    begun: u64,
+    requests: RequestTable<Shared<Snapshot>, Work>,
+    made: Option<Made>,
+}
+
+impl Model for LaneCore {
+    ghost use Rattle.lane_core.specs.Kept.{LaneHolding, AreKept};
+
+    ghost Value = { LaneHolding };
+
+    ghost view = { λ l. record { core = record { lane = l.lane; begun = l.begun; live = l.requests.live }; made = l.made; room = l.requests.room } };
+
+    ghost invariant = { λ l. AreKept l.lane l.begun l.requests.live };
+}
+
+impl LaneCore {
+    ghost use Rattle.lane_core.specs.Kept.{lane_made, HasMade, HasRoom, IsWaiting, op_of};
+
+    /// A lane that has begun nothing.
+    pub fn new(alloc: Global, lane: LaneId) -> LaneCore
+        ensures { result.core ≡ lane_first lane }
+    {
+        LaneCore {
+            alloc,
+            lane,
+            begun: 0,
+            requests: RequestTable::new(alloc),
+            made: None,
+        }
+    }
+
+    /// How many requests are live.
+    pub fn live(&self) -> usize
+        ensures { result ≡ length self.now.core.live }
+    {
+        self.requests.len()
+    }
+
+    /// Whether a live request uses a version below this one.
+    pub fn live_below(&self, version: Version) -> bool
+        ensures { result ≡ is_live_below self.now.core.live version }
+    {
+        self.requests.live_below(version)
+    }
+
+    /// Whether the input may happen. The error is the first rule that it breaks: a lane has at most 8 live requests, and
+    /// only a live one is given up.
+    pub fn check(&self, input: &LaneInput) -> Result<(), EventRule>
+        ensures { MatchResult result (λ _. lane_rule self.now.core input.now ≡ None) (λ broken. lane_rule self.now.core input.now ≡ Some broken) }
+    {
+        match input {
+            LaneInput::Write { .. } | LaneInput::Read { .. } => self.check_begin(),
+            LaneInput::Take(_) => Ok(()),
+            LaneInput::Timeout(op) => match self.requests.get(*op) {
+                Some(_) => Ok(()),
+                None => Err(EventRule::NoRequest),
+            },
+        }
+    }
+
+    /// Whether a request may begin.
+    fn check_begin(&self) -> Result<(), EventRule>
+        ensures { MatchResult result (λ _. begin_rule self.now.core ≡ None) (λ broken. begin_rule self.now.core ≡ Some broken) }
+    {
+        if self.requests.len() >= 8 {
+            return Err(EventRule::LaneFull);
+        }
+        Ok(())
+    }
+
+    /// What is made ahead for an input.
+    fn make(&self, input: &LaneInput) -> Result<Made, NoMemory>
+        requires { IsFor self.now.core input.now }
+        ensures made { IfOk result (λ made. made ≡ lane_made self.now.core input.now) }
+        ensures waits { IfOk result (λ made. IfSome made.work (IsWaiting self.now.core.lane (op_of self.now.core input.now))) }
+    {
+        match input {
+            LaneInput::Write {
+                table,
+                token,
+                cell,
+                snapshot,
+            } => {
+                let op = OpId(self.begun + 1);
+                made_write(
+                    self.alloc,
+                    self.lane,
+                    op,
+                    *table,
+                    *token,
+                    cell,
+                    snapshot.get(),
+                )
+            }
+            LaneInput::Read {
+                table,
+                token,
+                snapshot,
+            } => {
+                let op = OpId(self.begun + 1);
+                made_read(self.alloc, self.lane, op, *table, *token, snapshot.get())
+            }
+            LaneInput::Take(answer) => Ok(made_taking(answer, self.requests.get(answer.op))),
+            LaneInput::Timeout(op) => Ok(made_given_up(*op, self.requests.get(*op))),
+        }
+    }
+
+    /// Makes room for the next request, where the input begins one.
+    fn make_room(&mut self, input: &LaneInput) -> Result<(), NoMemory>
+        requires { IsFor self.old.core input.now }
+        ensures core { self.new.core ≡ self.old.core }
+        ensures made { self.new.made ≡ self.old.made }
+        ensures room { IfOk result (λ _. HasRoom self.new.core self.new.room input.now) }
+    {
+        match input {
+            LaneInput::Write { .. } | LaneInput::Read { .. } => {
+                self.requests.reserve(OpId(self.begun + 1))?;
+            }
+            LaneInput::Take(_) | LaneInput::Timeout(_) => {}
+        }
+        Ok(())
+    }
+
+    /// Takes all memory that an input needs. Nothing of the lane changes, also at `NoMemory`. An answer in the input is to
+    /// this lane.
+    pub fn prepare(&mut self, input: LaneInput) -> Result<Prepared, NoMemory>
+        requires rule { lane_rule self.old.core input ≡ None }
+        requires for_it { IsFor self.old.core input }
+        ensures core { self.new.core ≡ self.old.core }
+        ensures input { IfOk result (λ prepared. prepared ≡ input) }
+        ensures ready { IfOk result (λ prepared. HasMade self.new prepared) }
+    {
+        let made = self.make(&input)?;
+        self.make_room(&input)?;
+        self.made = Some(made);
+        Ok(Prepared { input })
+    }
+
+    /// Carries out what was prepared by the last call on this lane. Takes no memory.
+    pub fn settle(&mut self, prepared: Prepared) -> LaneOut
+        requires { HasMade self.old prepared }
+        ensures core { self.new.core ≡ lane_after self.old.core prepared }
+        ensures out { result ≡ lane_out self.old.core prepared }
+    {
+        let Prepared { input } = prepared;
+        let Some(Made { out, work }) = self.made.take() else {
+            unreachable!()
+        };
+        match input {
+            LaneInput::Write { snapshot, .. } | LaneInput::Read { snapshot, .. } => self.begin(
+                snapshot, work,
+            ),
+            LaneInput::Take(answer) => self.go_on(answer.op, work),
+            LaneInput::Timeout(op) => self.go_on(op, None),
+        }
+        out
+    }
+
+    /// Begins the next request, which lives where it has work.
+    fn begin(&mut self, snapshot: Shared<Snapshot>, work: Option<Work>)
+        requires countable { self.old.core.begun + 1 < 2 ^ 64 }
+        requires room { self.old.room ≡ Some (next_op self.old.core) }
+        requires waits { IfSome work (IsWaiting self.old.core.lane (next_op self.old.core)) }
+        ensures { self.new.core ≡ with_next self.old.core snapshot work }
+    {
+        match work {
+            Some(work) => self.insert(snapshot, work),
+            None => self.begun += 1,
+        }
+    }
+
+    /// Begins the next request, for which there is room, with this work.
+    fn insert(&mut self, snapshot: Shared<Snapshot>, work: Work)
+        requires countable { self.old.core.begun + 1 < 2 ^ 64 }
+        requires room { self.old.room ≡ Some (next_op self.old.core) }
+        requires waits { IsWaiting self.old.core.lane (next_op self.old.core) work }
+        ensures { self.new.core ≡ with_next self.old.core snapshot (Some work) }
+    {
+        let op = OpId(self.begun + 1);
+        let version = snapshot.version();
+        self.requests.insert(op, version, snapshot, work);
+        self.begun = op.0;
+    }
+
+    /// A request goes on with this work, or lives no longer.
+    fn go_on(&mut self, op: OpId, work: Option<Work>)
+        requires { IfSome work (IsWaiting self.old.core.lane op) }
+        ensures { self.new.core ≡ record self.old.core { live = live_with self.old.core.live op work } }
+    {
+        match work {
+            Some(work) => self.requests.replace(op, work),
+            None => {
+                self.requests.remove(op);
+            }
+        }
+    }
+
+    /// Loses all live requests, and what was prepared. The count of begins stays. Takes no memory.
+    pub fn restart(&mut self)
+        ensures { self.new.core ≡ lane_restarted self.old.core }
+    {
+        self.requests.clear();
+        self.made = None;
+    }
+}

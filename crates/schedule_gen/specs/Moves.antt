@@ -1,0 +1,30 @@
+-- The moves of a schedule: their stages, and their pending hosts.
+use Rattle.std.specs.Prelude.{ℕ, Bool, ◌==◌, not, List, [], ◌∷◌, Option, None, Some, find, unwrap_or}
+use Rattle.std.specs.List.{list_any}
+use Rattle.stage_graph.specs.declared.stage.Stage.{Stage}
+use Rattle.stage_graph.specs.declared.stage.Stage.TheVariants.{AllowWriteBothReadOld, WriteBothReadOld, Streaming, WriteBothReadNew, UseNew, Cleanup, EndMigration, FallbackCleanup, CleanupTarget, RevertMigration}
+
+-- the next stage of the way forward, which a start enters at the first; at its end there is none
+abbrev pub next_forward : Stage → Option Stage
+next_forward AllowWriteBothReadOld = Some WriteBothReadOld
+next_forward WriteBothReadOld = Some Streaming
+next_forward Streaming = Some WriteBothReadNew
+next_forward WriteBothReadNew = Some UseNew
+next_forward UseNew = Some Cleanup
+next_forward Cleanup = Some EndMigration
+next_forward EndMigration = None
+-- the stages of the way back, which no schedule enters
+next_forward FallbackCleanup = None
+next_forward CleanupTarget = None
+next_forward RevertMigration = None
+
+abbrev pub all_hosts : List ℕ
+all_hosts = 0 ∷ 1 ∷ 2 ∷ 3 ∷ 4 ∷ []
+
+-- whether the host is not among these
+abbrev pub is_absent : List ℕ → ℕ → Bool
+is_absent hosts host = not (list_any (λ other. other == host) hosts)
+
+-- the least host that is not among these
+abbrev pub least_absent : List ℕ → ℕ
+least_absent hosts = unwrap_or (find (is_absent hosts) all_hosts) 0
