@@ -1,5 +1,5 @@
 -- Where a table is regrouped, no cell is put.
-use Rattle.std.proofs.Common.{◌≡◌, ℕ, ◌≤◌, Option, Some, None, refl, sym, arith}
+use Rattle.std.proofs.Common.{◌≡◌, ℕ, ◌≤◌, Option, Some, None, refl, arith}
 use Rattle.base_ids.specs.declared.ids.TableId.{TableId}
 use Rattle.host_core.specs.declared.grouping.Grouping.{Grouping}
 use Rattle.topo_state.specs.State.{Topology}

@@ -1,6 +1,6 @@
 -- A host as plain data, and its part of each event: the first rule that its own state decides, what becomes of it, and what
 -- comes out.
-use Rattle.std.specs.Prelude.{ℕ, ◌+◌, ◌-◌, ◌≡◌, ◌<◌, ◌^◌, Bool, true, false, nat_lt, nat_le, is_some, is_none, List, [], ◌∷◌, Option, Some, None, if◌then◌else◌}
+use Rattle.std.specs.Prelude.{ℕ, ◌+◌, ◌-◌, ◌≡◌, ◌<◌, ◌^◌, Bool, false, nat_lt, nat_le, is_some, is_none, [], Option, Some, None, if◌then◌else◌}
 use Rattle.std.specs.Option.{option_or}
 use Rattle.base_ids.specs.Names.{first_version}
 use Rattle.base_ids.specs.declared.ids.HostId.{HostId}

@@ -1,5 +1,5 @@
 -- What must be ready before an input is settled.
-use Rattle.std.specs.Prelude.{ℕ, ◌+◌, ◌≡◌, ◌≤◌, length, Option, Some, None}
+use Rattle.std.specs.Prelude.{ℕ, ◌≡◌, ◌≤◌, length, Option, Some}
 use Rattle.host_core.specs.Host.{HostView, host_out, next_state, next_pull, CanTake}
 use Rattle.host_core.specs.declared.data.HostInput.{HostInput}
 use Rattle.host_core.specs.declared.data.HostInput.TheVariants.{Write, TakeChunk, Pull}

@@ -1,5 +1,4 @@
 use Rattle.std.proofs.Common.{◌≡◌, ◌∙◌}
-use Rattle.host_core.specs.Host.{HostView}
 use Rattle.host_core.specs.Groups.{grouping_of, runs_with}
 use Rattle.host_core.proofs.RoomLemmas.{runs_with-same}
 use Rattle.host_core.proofs.host.HostCore.prepare.Goals as goal
