@@ -78,7 +78,7 @@ pub record HasSoundStates (first : Topology) (log : List Command) : Type 0 where
       (id : TableId) (token : Token) (tablet : Tablet) → view state id token.value ≡ Some tablet →
       IsSoundView state.members tablet
 
--- A session that a key shows is its start; one that a key does not show since its start, it shows never again.
+-- A session that a key shows is its start; once a key has ceased to show a session it never shows it again.
 pub record HasSessions (first : Topology) (log : List Command) : Type 0 where
   pub starts : (count : ℕ) → count ≤ length log → (session : ℕ) (id : TableId) (token : Token) (stage : Stage) →
       stage_at first log count session id token.value ≡ Some stage → IsItsStart first log count session
