@@ -1,6 +1,7 @@
 //! The runs of a table for twice or half as many tablets, copied.
 ghost use Rattle.std.specs.Prelude.{◌≡◌, ℕ, ◌+◌, ◌*◌, ◌^◌, ◌<◌, ◌++◌, IfOk};
 ghost use Rattle.base_ids.specs.declared.ids.TableId.{TableId};
+ghost use Rattle.token_ring.specs.Ring.{first_place};
 ghost use Rattle.run_store.specs.Runs.{of_table, run_cells, IsRun, IsGrouped};
 
 use crate::run::{self, Run};
@@ -55,8 +56,16 @@ fn halves_of(table: TableId, log2: u8, at: usize, stored: &[Stored]) -> (&[Store
     ensures left { IsRun (log2 + 1) (2 * at) (of_table table result.0.now) }
     ensures right { IsRun (log2 + 1) (2 * at + 1) (of_table table result.1.now) }
 {
-    let (_, right) = children(TabletId(at as u32));
-    let boundary = range_of(log2 + 1, right).first;
-    let cut = run::first_from(table, stored, rank(table, boundary));
+    let cut = run::first_from(table, stored, boundary_of(table, log2, at));
     stored.split_at(cut)
+}
+
+/// The place of the first token of a tablet's right child, among the places of the tokens of all tables.
+fn boundary_of(table: TableId, log2: u8, at: usize) -> u128
+    requires few { log2 < 10 }
+    requires tablet { at < 2 ^ log2 }
+    ensures { result ≡ table.0 * 2 ^ 64 + first_place (log2 + 1) (2 * at + 1) }
+{
+    let (_, right) = children(TabletId(at as u32));
+    rank(table, range_of(log2 + 1, right).first)
 }

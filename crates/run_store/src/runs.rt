@@ -23,6 +23,15 @@ pub fn index_of(log2: u8, token: Token) -> usize
     tablet_of(log2, token).0 as usize
 }
 
+/// The index behind the run of a token.
+pub fn end_of(log2: u8, token: Token) -> usize
+    requires { log2 ≤ 10 }
+    ensures tablet { result ≡ tablet_at log2 token.value + 1 }
+    ensures within { result ≤ 2 ^ log2 }
+{
+    index_of(log2, token) + 1
+}
+
 /// One run of all cells of a table.
 pub fn single(alloc: Global, cells: &[Stored]) -> Result<Vec<Run>, NoMemory>
     ensures grouped { IfOk result (λ runs. (table : TableId)
@@ -89,7 +98,7 @@ pub fn drop_range(table: TableId, log2: u8, runs: &mut Vec<Run>, range: TokenRan
     ensures room { least_spare runs.old.items ≤ least_spare runs.new.items }
 {
     let from = index_of(log2, range.first);
-    let until = index_of(log2, range.last) + 1;
+    let until = end_of(log2, range.last);
     for at in from..until {
         let run = &mut runs[at];
         run.drop_range(table, range);

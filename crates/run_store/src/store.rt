@@ -16,7 +16,8 @@ use token_ring::{Token, TokenRange};
 
 /// A store that keeps the cells of a table in one sorted run for each of its tablets.
 ///
-/// The run of a table that was never regrouped stands in one sorted list with those of other such tables.
+/// The run of a table that was never regrouped stands in one sorted list with those of other such tables; `regroup`
+/// gives it runs of its own, also where it asks for one run.
 #[derive(Drop)]
 pub struct RunStore {
     alloc: Global,

@@ -1,4 +1,5 @@
 use Rattle.std.proofs.Common.{refl, sym, ◌∙◌, ◌<◌, ◌^◌, arith}
+use Rattle.token_ring.specs.Ring.{tablet_at}
 use Rattle.run_store.specs.Runs.{of_table}
 use Rattle.run_store.proofs.GroupLemmas.{IsGrouped-set, IsRun-outside, least_spare-set, run_read}
 use Rattle.run_store.proofs.LoopLemmas.{IsClean, all_low, all_clean, each_clean, each_more, clean_now, outside-set}
@@ -14,12 +15,12 @@ loop-at-init c = record {
 
 pub drop_range-requires : goal.drop_range-requires
 drop_range-requires c =
-    let run = run_read c.args.table c.args.log2 c.loop-at.runs.items c.loop-at.at c.index_mut-run.result.now c.loop-at.invariant.grouped (omega (arith, c.index_of-until.ensures.within)) c.index_mut-run.ensures.value in
+    let run = run_read c.args.table c.args.log2 c.loop-at.runs.items c.loop-at.at c.index_mut-run.result.now c.loop-at.invariant.grouped (omega (arith, c.end_of-until.ensures.within)) c.index_mut-run.ensures.value in
     run.ordered
 
 pub loop-at-preserved : goal.loop-at-preserved
 loop-at-preserved c =
-    let below : c.loop-at.at < 2 ^ c.args.log2 = omega (arith, c.index_of-until.ensures.within) in
+    let below : c.loop-at.at < 2 ^ c.args.log2 = omega (arith, c.end_of-until.ensures.within) in
     let run = run_read c.args.table c.args.log2 c.loop-at.runs.items c.loop-at.at c.index_mut-run.result.now c.loop-at.invariant.grouped below c.index_mut-run.ensures.value in
     let kept = least_spare-set c.loop-at.runs.items c.loop-at.at 0 c.index_mut-run.result.now c.drop_range.new.self c.index_mut-run.ensures.value (omega (arith, c.drop_range.ensures.room)) in
     record {
@@ -31,5 +32,5 @@ loop-at-preserved c =
 
 pub returns-clause-cells : goal.returns-clause-cells
 returns-clause-cells c =
-    sym (all_clean c.args.table c.args.range c.loop-at.runs.items (each_clean c.args.table c.args.range c.args.log2 c.loop-at.runs.items c.loop-at.invariant.grouped c.index_of-until.result c.loop-at.at c.index_of-until.ensures.tablet c.loop-at-test.false c.loop-at.invariant.clean))
+    sym (all_clean c.args.table c.args.range c.loop-at.runs.items (each_clean c.args.table c.args.range c.args.log2 c.loop-at.runs.items c.loop-at.invariant.grouped (tablet_at c.args.log2 c.args.range.last.value) c.loop-at.at refl (rw c.end_of-until.ensures.tablet at c.loop-at-test.false) c.loop-at.invariant.clean))
     ∙ c.loop-at.invariant.cells
