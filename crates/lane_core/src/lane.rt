@@ -71,6 +71,20 @@ impl LaneCore {
         }
     }
 
+    /// The lane's name.
+    pub fn lane(&self) -> LaneId
+        ensures { result ≡ self.now.core.lane }
+    {
+        self.lane
+    }
+
+    /// How many requests it has begun.
+    pub fn begun(&self) -> u64
+        ensures { result ≡ self.now.core.begun }
+    {
+        self.begun
+    }
+
     /// How many requests are live.
     pub fn live(&self) -> usize
         ensures { result ≡ length self.now.core.live }

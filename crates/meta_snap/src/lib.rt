@@ -8,3 +8,6 @@ mod snapshot;
 
 pub use route::Route;
 pub use snapshot::Snapshot;
+
+#[cfg(test)]
+mod tests;

@@ -34,18 +34,18 @@ awaited_ready facts Split seq tablets = least_without facts (ReadyFor seq) (repl
 awaited_ready facts Merge seq tablets = None
 awaited_ready facts Keep seq tablets = None
 
-abbrev pub next_for_decision : Topology → List Told → Table → Session → Option Decision → Next
-next_for_decision state facts table seq None = Nothing
-next_for_decision state facts table seq (Some decision) =
+abbrev pub next_for_decision : Topology → List Told → TableId → List Tablet → Session → Option Decision → Next
+next_for_decision state facts id tablets seq None = Nothing
+next_for_decision state facts id tablets seq (Some decision) =
     if same_session decision.seq seq then
-    awaited_or Ready (awaited_ready facts decision.kind seq table.map.list) (
+    awaited_or Ready (awaited_ready facts decision.kind seq tablets) (
     awaited_or Barrier (awaited_barrier facts state) (
-    Propose (FinalizeResize table.id seq)))
+    Propose (FinalizeResize id seq)))
     else Nothing
 
-abbrev pub next_for_table : Topology → List Told → Session → Option Table → Next
-next_for_table state facts seq None = Nothing
-next_for_table state facts seq (Some table) = next_for_decision state facts table seq table.resize
+abbrev pub next_for_table : Topology → List Told → TableId → Session → Option Table → Next
+next_for_table state facts id seq None = Nothing
+next_for_table state facts id seq (Some table) = next_for_decision state facts id table.map.list seq table.resize
 
 abbrev pub plan_resize : Topology → List Told → TableId → Session → Next
-plan_resize state facts id seq = next_for_table state facts seq (table_in state.tables id)
+plan_resize state facts id seq = next_for_table state facts id seq (table_in state.tables id)

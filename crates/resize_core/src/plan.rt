@@ -30,10 +30,7 @@ pub fn plan_resize(state: &TopoState, evidence: &Evidence, table: TableId, seq: 
     if let Some(host) = awaited_barrier(evidence, state) {
         return Next::Barrier(host);
     }
-    Next::Propose(Command::FinalizeResize {
-        table: found.id,
-        seq,
-    })
+    Next::Propose(Command::FinalizeResize { table, seq })
 }
 
 /// Before a split, the least host with a replica that has not told that it is ready.

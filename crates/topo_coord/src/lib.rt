@@ -4,7 +4,9 @@
 
 mod coordinator;
 mod data;
+mod laws;
 mod rules;
 
 pub use coordinator::{Prepared, TopoCore};
 pub use data::{TopoInput, TopoOut};
+pub use laws::{law_planned_move_is_allowed, law_planned_resize_is_allowed};
