@@ -14,7 +14,7 @@ use Rattle.replica_store.specs.Columns.{put_at}
 use Rattle.cluster_history.specs.Agreement.{HeldCellsAgree}
 use Rattle.cluster_history.specs.Held.{cleaned_move, covers, gained_cell, held_cell, held_cells, kept_cells, stored_cells, with_cells}
 use Rattle.cluster_history.specs.History.{History}
-use Rattle.cluster_history.specs.Moves.{Move}
+use Rattle.topo_state.specs.declared.moves.Move.{Move}
 use Rattle.cluster_history.specs.declared.data.Opening.{Opening}
 
 IsOrdered-kept : (move : Option Move) (cells : Cells) → IsOrdered cells → IsOrdered (kept_cells move cells)

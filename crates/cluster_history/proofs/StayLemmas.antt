@@ -24,7 +24,8 @@ use Rattle.cluster_history.specs.Held.{is_done}
 use Rattle.cluster_history.specs.History.{History, actor_of, is_by, is_restart_of, message_of, output_at}
 use Rattle.cluster_history.specs.Legal.{broken_rule}
 use Rattle.cluster_history.specs.Messages.{is_answer, is_chunk, is_clean_ask, is_for, is_question, is_report, is_request}
-use Rattle.cluster_history.specs.Moves.{first_pull, is_cleaned_by}
+use Rattle.cluster_history.specs.Moves.{first_pull}
+use Rattle.topo_state.specs.Moves.{is_cleaned_by}
 use Rattle.cluster_history.specs.Openings.{opening_state}
 use Rattle.cluster_history.specs.Outputs.{answer_outputs, begin_outputs, chunk_outputs, clean_outputs, pull_outputs, serve_outputs, take_outputs, timeout_outputs}
 use Rattle.cluster_history.specs.Requests.{Way, begins, begun_count, begun_ops, has_live_below, is_begin_of, is_below, is_live, lags, live_count, next_op, numbers_below, replies_to, request_at, request_on, started_request, way_in, way_of}

@@ -19,7 +19,8 @@ use Rattle.cluster_history.specs.Held.{has_done, held_cell, held_cells, pull_of,
 use Rattle.cluster_history.specs.History.{History, message_at, output_at}
 use Rattle.cluster_history.specs.Legal.{broken_rule, outputs_of}
 use Rattle.cluster_history.specs.Messages.{addressee, is_clean_ask, is_for, is_question, is_request, kind_of, read_key}
-use Rattle.cluster_history.specs.Moves.{first_pull, is_cleaned_by}
+use Rattle.cluster_history.specs.Moves.{first_pull}
+use Rattle.topo_state.specs.Moves.{is_cleaned_by}
 use Rattle.cluster_history.specs.Outputs.{answer_outputs, ask_of, begin_outputs, chunk_outputs, clean_outputs, cleaned_outputs, decided_by, fact_for, is_last, outcome_of, pull_outputs, reply_list, said_to, sent_ask, serve_outputs, take_outputs, timeout_outputs}
 use Rattle.cluster_history.specs.Requests.{Request, Route, Way, answers_of, live_request, next_op, way_of}
 use Rattle.cluster_history.specs.Requests.Way.{Ends, Goes}
