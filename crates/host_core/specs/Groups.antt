@@ -1,18 +1,18 @@
 -- Where a host lays the cells of a table into runs, one for each tablet: when it applies the command that makes the table or
 -- resizes it, and when it tells that it is ready for a split.
-use Rattle.std.specs.Prelude.{ℕ, ◌+◌, ◌^◌, Bool, true, false, nat_lt, Option, Some, None, option_map, find, if◌then◌else◌}
+use Rattle.std.specs.Prelude.{ℕ, ◌+◌, ◌≡◌, ◌⊎◌, ◌^◌, Bool, true, false, nat_lt, Option, Some, None, option_map, find, if◌then◌else◌}
 use Rattle.base_ids.specs.Names.{same_table}
 use Rattle.base_ids.specs.declared.ids.TableId.{TableId}
 use Rattle.barrier_core.specs.declared.data.What.{What}
 use Rattle.barrier_core.specs.declared.data.What.TheVariants.{Ready}
 use Rattle.topo_state.specs.State.{Topology}
 use Rattle.topo_state.specs.Tables.{table_in}
-use Rattle.topo_state.specs.After.{after}
 use Rattle.topo_state.specs.Moves.{is_split_by}
 use Rattle.topo_state.specs.declared.command.Command.{Command}
 use Rattle.topo_state.specs.declared.command.Command.TheVariants.{CreateTable, FinalizeResize}
 use Rattle.topo_state.specs.declared.data.Table.{Table}
-use Rattle.host_core.specs.Host.{HostView}
+use Rattle.replica_store.specs.Cells.{IsRegrouped}
+use Rattle.host_core.specs.Host.{HostView, next_state}
 use Rattle.host_core.specs.declared.data.HostInput.{HostInput}
 use Rattle.host_core.specs.declared.data.HostInput.TheVariants.{Apply, Answer as AnswerAsk}
 use Rattle.host_core.specs.declared.grouping.Grouping.{Grouping}
@@ -42,11 +42,19 @@ abbrev pub grouping_told : Topology → What → Option Grouping
 grouping_told state (Ready number) = grouping_split (find (is_split_by number) state.tables)
 grouping_told state what = None
 
+abbrev pub grouping_next : Option Topology → Option TableId → Option Grouping
+grouping_next None id = None
+grouping_next (Some next) id = grouping_for next id
+
+-- by the state and the one after the command, where one is applied
+abbrev pub grouping_by : Topology → Option Topology → HostInput → Option Grouping
+grouping_by state next (Apply command) = grouping_next next (grouped_table command)
+grouping_by state next (AnswerAsk ask) = grouping_told state ask.what
+grouping_by state next input = None
+
 -- the table that is regrouped at an input, and the logarithm of its count of runs afterwards
 abbrev pub grouping_of : HostView → HostInput → Option Grouping
-grouping_of view (Apply command) = grouping_for (after view.state command (view.applied + 1)) (grouped_table command)
-grouping_of view (AnswerAsk ask) = grouping_told view.state ask.what
-grouping_of view input = None
+grouping_of view input = grouping_by view.state (next_state view input) input
 
 -- the run counts after it, where they are told
 abbrev pub runs_with : Option Grouping → (TableId → Option ℕ) → TableId → Option ℕ
@@ -54,7 +62,12 @@ runs_with None runs table = runs table
 runs_with (Some grouping) runs table =
     if same_table table grouping.table then option_map (λ _. 2 ^ grouping.log2) (runs table) else runs table
 
--- the table is regrouped
 abbrev pub is_grouped : Option Grouping → TableId → Bool
 is_grouped None table = false
 is_grouped (Some grouping) table = same_table table grouping.table
+
+-- after want of memory each table has its run count, but that the one to be regrouped may have some power of two
+abbrev pub AreLeft : Option Grouping → (TableId → Option ℕ) → (TableId → Option ℕ) → Type 0
+AreLeft grouping before now =
+    (table : TableId)
+    → (now table ≡ before table) ⊎ ((is_grouped grouping table ≡ true) × IsRegrouped (before table) (now table))

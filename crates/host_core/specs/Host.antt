@@ -1,6 +1,6 @@
 -- A host as plain data, and its part of each event: the first rule that its own state decides, what becomes of it, and what
 -- comes out.
-use Rattle.std.specs.Prelude.{ℕ, ◌+◌, ◌≡◌, ◌<◌, ◌^◌, Bool, true, false, nat_lt, nat_le, is_some, is_none, List, [], ◌∷◌, Option, Some, None, if◌then◌else◌}
+use Rattle.std.specs.Prelude.{ℕ, ◌+◌, ◌-◌, ◌≡◌, ◌<◌, ◌^◌, Bool, false, nat_lt, nat_le, is_some, is_none, [], Option, Some, None, if◌then◌else◌}
 use Rattle.std.specs.Option.{option_or}
 use Rattle.base_ids.specs.Names.{first_version}
 use Rattle.base_ids.specs.declared.ids.HostId.{HostId}
@@ -77,26 +77,27 @@ host_rule view input = None
 abbrev pub greater_version : Version → Version → Version
 greater_version a b = if nat_lt a.0 b.0 then b else a
 
-abbrev pub after_chunk : HostView → ChunkMsg → Option PullView → HostView
-after_chunk view chunk None = view
-after_chunk view chunk (Some pull) =
-    record view {
-      cells = cells_after view.cells pull chunk;
-      pulls = with_pull view.pulls chunk.session (pull_after pull chunk);
-    }
+-- the cells and the pulls after a chunk: those of the pull that it is for, where there is one
+abbrev pub chunk_cells : Cells → ChunkMsg → Option PullView → Cells
+chunk_cells cells chunk None = cells
+chunk_cells cells chunk (Some pull) = cells_after cells pull chunk
 
--- the pulls after a cleanup: the one of a session that cleaned the host is dropped
+abbrev pub chunk_pulls : Pulls → ChunkMsg → Option PullView → Pulls
+chunk_pulls pulls chunk None = pulls
+chunk_pulls pulls chunk (Some pull) = with_pull pulls chunk.session (pull_after pull chunk)
+
+-- the cells and the pulls after a cleanup: a session that cleans the host drops what its move leaves there, and its pull
+abbrev pub clean_cells : Cells → Topology → HostId → What → Cells
+clean_cells cells state host (CleanOf session) = cleaned_cells cells state host session
+clean_cells cells state host what = cells
+
 abbrev pub kept_pulls : Pulls → Session → Cleanup → Pulls
 kept_pulls pulls session Cleaned = without_pull pulls session
 kept_pulls pulls session NotCleaned = pulls
 
-abbrev pub after_clean : HostView → What → HostView
-after_clean view (CleanOf session) =
-    record view {
-      cells = cleaned_cells view.cells view.state view.host session;
-      pulls = kept_pulls view.pulls session (cleanup_of view.state view.host session);
-    }
-after_clean view what = view
+abbrev pub clean_pulls : Pulls → Topology → HostId → What → Pulls
+clean_pulls pulls state host (CleanOf session) = kept_pulls pulls session (cleanup_of state host session)
+clean_pulls pulls state host what = pulls
 
 -- the pull that begins: the first one of a session that has none yet
 abbrev pub begun_pull : Topology → HostId → Pulls → Session → Option PullView
@@ -107,13 +108,30 @@ abbrev pub with_begun : Pulls → Session → Option PullView → Pulls
 with_begun pulls session None = pulls
 with_begun pulls session (Some pull) = with_pull pulls session pull
 
+-- the state after the command, where one is applied
+abbrev pub next_state : HostView → HostInput → Option Topology
+next_state view (Apply command) = Some (after view.state command (view.applied + 1))
+next_state view input = None
+
+abbrev pub next_pull : HostView → HostInput → Option PullView
+next_pull view (Pull session) = begun_pull view.state view.host view.pulls session
+next_pull view input = None
+
 abbrev pub host_after : HostView → HostInput → HostView
 host_after view (Apply command) =
     record view { applied = view.applied + 1; state = after view.state command (view.applied + 1) }
 host_after view (Quiet version) = record view { floor = greater_version view.floor version }
 host_after view (Write ask) = record view { cells = written_cells view.state.fence view.cells ask }
-host_after view (TakeChunk chunk) = after_chunk view chunk (pull_in view.pulls chunk.session)
-host_after view (Clean ask) = after_clean view ask.what
+host_after view (TakeChunk chunk) =
+    record view {
+      cells = chunk_cells view.cells chunk (pull_in view.pulls chunk.session);
+      pulls = chunk_pulls view.pulls chunk (pull_in view.pulls chunk.session);
+    }
+host_after view (Clean ask) =
+    record view {
+      cells = clean_cells view.cells view.state view.host ask.what;
+      pulls = clean_pulls view.pulls view.state view.host ask.what;
+    }
 host_after view (Pull session) =
     record view { pulls = with_begun view.pulls session (begun_pull view.state view.host view.pulls session) }
 host_after view input = view

@@ -1,6 +1,7 @@
 -- The pulls of a host, each under its session.
-use Rattle.std.specs.Prelude.{ℕ, List, [], ◌∷◌, Option, Some, None, if◌then◌else◌}
+use Rattle.std.specs.Prelude.{ℕ, List, Option, Some, None, if◌then◌else◌}
 use Rattle.std.specs.Map.{lookup, remove_entry}
+use Rattle.indexmap.specs.IndexMap.{insert_entry}
 use Rattle.base_ids.specs.Names.{same_session}
 use Rattle.base_ids.specs.declared.ids.HostId.{HostId}
 use Rattle.base_ids.specs.declared.ids.Session.{Session}
@@ -19,9 +20,7 @@ pull_in pulls session = lookup (same_session session) pulls
 
 -- the pulls with this one for its session: in the place of the one that is there, or behind the others
 abbrev pub with_pull : Pulls → Session → Pulling → Pulls
-with_pull [] session pull = (session, pull) ∷ []
-with_pull (entry ∷ pulls) session pull =
-    if same_session session entry.0 then (entry.0, pull) ∷ pulls else entry ∷ with_pull pulls session pull
+with_pull pulls session pull = insert_entry same_session pulls session pull
 
 -- the pulls of other sessions, in their order
 abbrev pub without_pull : Pulls → Session → Pulls

@@ -1,30 +1,18 @@
 -- What must be ready before an input is settled.
-use Rattle.std.specs.Prelude.{ℕ, ◌+◌, ◌≡◌, ◌≤◌, length, Option, Some, None}
-use Rattle.base_ids.specs.declared.ids.TableId.{TableId}
-use Rattle.topo_state.specs.State.{Topology}
-use Rattle.topo_state.specs.After.{after}
-use Rattle.stream_core.specs.Pulls.{Pulling as PullView}
-use Rattle.host_core.specs.Host.{HostView, host_out, begun_pull, CanTake}
+use Rattle.std.specs.Prelude.{ℕ, ◌≡◌, ◌≤◌, length, Option, Some}
+use Rattle.host_core.specs.Host.{HostView, host_out, next_state, next_pull, CanTake}
 use Rattle.host_core.specs.declared.data.HostInput.{HostInput}
-use Rattle.host_core.specs.declared.data.HostInput.TheVariants.{Apply, Write, TakeChunk, Pull}
+use Rattle.host_core.specs.declared.data.HostInput.TheVariants.{Write, TakeChunk, Pull}
 use Rattle.host_core.specs.declared.data.Made.{Made}
 
 -- a host with what was made for its next input, with how many cells it can put and how many pulls it can begin without taking
--- memory, and with the run counts of its store, where that tells them
-pub record Holding : Type 0 where
+-- memory, and with its store
+pub record Holding (S : Type 0) : Type 0 where
   pub core : HostView
   pub made : Option Made
   pub room : ℕ
   pub pull_room : ℕ
-  pub runs : TableId → Option ℕ
-
-abbrev pub next_state : HostView → HostInput → Option Topology
-next_state view (Apply command) = Some (after view.state command (view.applied + 1))
-next_state view input = None
-
-abbrev pub next_pull : HostView → HostInput → Option PullView
-next_pull view (Pull session) = begun_pull view.state view.host view.pulls session
-next_pull view input = None
+  pub store : S
 
 abbrev pub made_of : HostView → HostInput → Made
 made_of view input = record { out = host_out view input; next = next_state view input; begun = next_pull view input }
@@ -40,8 +28,9 @@ needed_pulls (Pull session) = 1
 needed_pulls input = 0
 
 -- all that the input takes is there
-pub record HasMade (host : Holding) (input : HostInput) : Type 0 where
-  pub made : host.made ≡ Some (made_of host.core input)
-  pub room : needed_cells input ≤ host.room
-  pub pull_room : needed_pulls input ≤ host.pull_room
-  pub fits : CanTake host.core input
+module _ {S : Type 0} where
+  pub record HasMade (host : Holding S) (input : HostInput) : Type 0 where
+    pub made : host.made ≡ Some (made_of host.core input)
+    pub room : needed_cells input ≤ host.room
+    pub pull_room : needed_pulls input ≤ host.pull_room
+    pub fits : CanTake host.core input

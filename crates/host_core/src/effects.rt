@@ -2,9 +2,9 @@
 ghost use Rattle.std.specs.Prelude.{◌≡◌, ◌≤◌, length, Some, None};
 ghost use Rattle.base_ids.specs.declared.ids.TableId.{TableId};
 ghost use Rattle.replica_store.specs.Cells.{IsOrdered};
-ghost use Rattle.host_core.specs.Host.{HostView, after_chunk, after_clean, with_begun, greater_version};
+ghost use Rattle.host_core.specs.Host.{chunk_cells, chunk_pulls, clean_cells, clean_pulls, kept_pulls, with_begun, greater_version};
+ghost use Rattle.replica_core.specs.Cleanups.{cleanup_of, cleaned_cells};
 ghost use Rattle.host_core.specs.Pulls.{pull_in};
-ghost use Rattle.host_core.specs.Changes.{chunk_cells, chunk_pulls, clean_cells, clean_pulls};
 
 use crate::pulls::PullTable;
 use barrier_core::What;
@@ -51,6 +51,7 @@ fn clean_session<S: Store>(
     session: Session,
 )
     ensures cells { S.cells store.new ≡ cleaned_cells (S.cells store.old) state.now host session }
+    ensures ordered { IsOrdered (S.cells store.old) → IsOrdered (S.cells store.new) }
     ensures pulls { pulls.new.list ≡ kept_pulls pulls.old.list session (cleanup_of state.now host session) }
     ensures same_runs { (t : TableId) → S.runs store.new t ≡ S.runs store.old t }
 {
@@ -69,6 +70,7 @@ pub fn clean<S: Store>(
     what: What,
 )
     ensures cells { S.cells store.new ≡ clean_cells (S.cells store.old) state.now host what }
+    ensures ordered { IsOrdered (S.cells store.old) → IsOrdered (S.cells store.new) }
     ensures pulls { pulls.new.list ≡ clean_pulls pulls.old.list state.now host what }
     ensures same_runs { (t : TableId) → S.runs store.new t ≡ S.runs store.old t }
 {

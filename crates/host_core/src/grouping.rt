@@ -1,9 +1,12 @@
 //! Which table is regrouped at an input.
-ghost use Rattle.std.specs.Prelude.{◌≡◌, ◌≤◌, IfSome};
-ghost use Rattle.host_core.specs.Groups.{grouped_table, grouping_for, grouping_told};
+ghost use Rattle.std.specs.Prelude.{◌≡◌, ◌≤◌, IfSome, OnOk, OnErr, None};
+ghost use Rattle.base_ids.specs.declared.ids.TableId.{TableId};
+ghost use Rattle.host_core.specs.Groups.{grouped_table, grouping_for, grouping_told, grouping_by, runs_with, AreLeft};
 
+use crate::data::HostInput;
 use barrier_core::What;
-use base_ids::TableId;
+use base_ids::{NoMemory, TableId};
+use replica_store::Store;
 use topo_state::{Command, TopoState, split_table};
 
 /// A table, and the logarithm of the count of runs into which its cells are laid.
@@ -64,5 +67,38 @@ pub fn grouping_told(state: &TopoState, what: What) -> Option<Grouping>
             }
         },
         _ => None,
+    }
+}
+
+/// The table that is regrouped at an input.
+pub fn grouping_of(
+    state: &TopoState,
+    next: &Option<TopoState>,
+    input: &HostInput,
+) -> Option<Grouping>
+    ensures grouping { result ≡ grouping_by state.now next.now input.now }
+    ensures few { IfSome result (λ grouping. grouping.log2 ≤ 10) }
+{
+    match input {
+        HostInput::Apply(command) => match next {
+            Some(next) => grouping_for(next, grouped_table(command.get())),
+            None => None,
+        },
+        HostInput::Answer(ask) => grouping_told(state, ask.what),
+        _ => None,
+    }
+}
+
+/// Lays the cells of a table into runs, where one is named.
+pub fn regroup<S: Store>(store: &mut S, grouping: Option<Grouping>) -> Result<(), NoMemory>
+    requires { IfSome grouping (λ grouping. grouping.log2 ≤ 10) }
+    ensures cells { S.cells store.new ≡ S.cells store.old }
+    ensures room { grouping ≡ None → S.spare store.new ≡ S.spare store.old }
+    ensures ok { OnOk result ((t : TableId) → S.runs store.new t ≡ runs_with grouping (S.runs store.old) t) }
+    ensures err { OnErr result (AreLeft grouping (S.runs store.old) (S.runs store.new)) }
+{
+    match grouping {
+        Some(grouping) => store.regroup(grouping.table, grouping.log2),
+        None => Ok(()),
     }
 }

@@ -1,7 +1,8 @@
 //! What is made of an input before it is settled. Nothing of the host changes.
-ghost use Rattle.std.specs.Prelude.{◌≡◌, ◌+◌, ◌-◌, ◌^◌, ◌<◌, IfOk, None};
-ghost use Rattle.std.specs.Option.{option_copied, option_or};
-ghost use Rattle.host_core.specs.Host.{HostView, CanTake, is_done, fact_for, took_out, chunk_out, cleanup_out, clean_out, begun_pull, pull_out, out_of, host_out};
+ghost use Rattle.std.specs.Prelude.{◌≡◌, ◌+◌, ◌-◌, ◌^◌, ◌<◌, IfOk};
+ghost use Rattle.std.specs.Option.{option_or};
+ghost use Rattle.host_core.specs.Host.{fact_for, chunk_out, clean_out, begun_pull, pull_out, out_of};
+ghost use Rattle.stream_core.specs.Pulls.{served_chunk, next_ask};
 ghost use Rattle.host_core.specs.Pulls.{pull_in, pull_for, first_pull};
 ghost use Rattle.topo_state.specs.After.{after};
 ghost use Rattle.topo_state.specs.Rules.{rule, IsFit};
@@ -74,32 +75,21 @@ pub fn begun_pull(
     }
 }
 
-/// The ask for the next chunk of a pull.
-fn ask_of(pull: &Pull) -> ChunkAsk
-    ensures { HostOut.Ask result ≡ pull_out (Some pull.now) }
-{
-    pull.ask()
-}
-
 /// What comes of a pull event.
 fn pull_out(state: &TopoState, host: HostId, pulls: &PullTable, session: Session) -> HostOut
     ensures { result ≡ pull_out (option_or (pull_in pulls.now.list session) (first_pull state.now host session)) }
 {
     match pulls.get(session) {
-        Some(pull) => HostOut::Ask(ask_of(pull)),
+        Some(pull) => HostOut::Ask(pull.ask()),
         None => match first_pull(state, host, session) {
-            Some(pull) => HostOut::Ask(ask_of(&pull)),
+            Some(pull) => HostOut::Ask(pull.ask()),
             None => HostOut::Nothing,
         },
     }
 }
 
 /// The chunk that is asked for, shared.
-fn chunk_for<S: Store>(
-    alloc: Global,
-    store: &S,
-    ask: &ChunkAsk,
-) -> Result<HostOut, NoMemory>
+fn chunk_for<S: Store>(alloc: Global, store: &S, ask: &ChunkAsk) -> Result<HostOut, NoMemory>
     ensures { IfOk result (λ out. out ≡ HostOut.Chunk (served_chunk (S.cells store.now) ask.now)) }
 {
     let chunk = serve_chunk(alloc, store, ask)?;

@@ -58,8 +58,9 @@ impl PullTable {
         requires { pull_in self.old.list session ≡ None → 1 ≤ self.old.spare }
         ensures { self.new.list ≡ with_pull self.old.list session pull }
     {
-        if self.pulls.insert(session, pull).is_err() {
-            unreachable!()
+        match self.pulls.insert(session, pull) {
+            Ok(_) => {}
+            Err(_) => unreachable!(),
         }
     }
 

@@ -1,5 +1,6 @@
--- A lane's part of an event: which rule it breaks, what it changes, and what comes out.
-use Rattle.std.specs.Prelude.{ℕ, ℤ, ◌+◌, nat_le, List, [], ◌∷◌, ◌++◌, length, map, Option, Some, None, is_some, if◌then◌else◌}
+-- A lane as plain data: how many requests it began and which are live, and what an input makes of it.
+use Rattle.std.specs.Prelude.{◌≡◌, ◌+◌, ◌<◌, ◌^◌, ℕ, ℤ, List, [], ◌∷◌, ◌++◌, length, map, Option, Some, None, is_some, if◌then◌else◌, nat_le}
+use Rattle.base_ids.specs.declared.ids.HostId.{HostId}
 use Rattle.base_ids.specs.declared.ids.LaneId.{LaneId}
 use Rattle.base_ids.specs.declared.ids.OpId.{OpId}
 use Rattle.base_ids.specs.declared.ids.Replica.{Replica}
@@ -11,189 +12,162 @@ use Rattle.cell_merge.specs.declared.cell.Cell.{Cell}
 use Rattle.token_ring.specs.declared.token.Token.{Token}
 use Rattle.stage_graph.specs.declared.kind.Kind.{Kind}
 use Rattle.stage_graph.specs.declared.kind.Kind.TheVariants.{Read as ReadKind, Write as WriteKind}
-use Rattle.topo_state.specs.State.{Topology, is_member}
-use Rattle.meta_snap.specs.Routes.{Directions, directions_in}
-use Rattle.request_table.specs.declared.Live.{Live}
-use Rattle.request_table.specs.Requests.{request_of, with_work, without}
+use Rattle.quorum_ops.specs.Pending.{pending_of, pending_read_of, timeout_of}
 use Rattle.quorum_ops.specs.declared.data.Answer.{Answer}
-use Rattle.quorum_ops.specs.declared.data.Reply.{Reply}
+use Rattle.quorum_ops.specs.declared.data.Reply.{Reply as ClientReply}
 use Rattle.quorum_ops.specs.declared.data.Reply.TheVariants.{NoTable, NotMember}
-use Rattle.quorum_ops.specs.declared.data.WriteAsk.{WriteAsk}
-use Rattle.quorum_ops.specs.declared.data.ReadAsk.{ReadAsk}
 use Rattle.quorum_ops.specs.declared.taking.Taking.{Taking}
 use Rattle.quorum_ops.specs.declared.taking.Taking.TheVariants.{Decided, Waiting}
-use Rattle.quorum_ops.specs.Pending.{Pending, pending_of, pending_read_of, after_answer, read_after_answer, write_taking, read_taking, timeout_of}
+use Rattle.request_table.specs.declared.Live.{Live}
+use Rattle.request_table.specs.Requests.{request_of, without, with_work}
+use Rattle.topo_state.specs.State.{Topology, is_member}
+use Rattle.meta_snap.specs.Routes.{Directions, directions_in}
 use Rattle.lane_core.specs.declared.work.Work.{Work}
-use Rattle.lane_core.specs.declared.work.Work.TheVariants.{Write as WriteWork, Read as ReadWork}
+use Rattle.lane_core.specs.declared.work.Work.TheVariants.{Write as Writing, Read as Reading}
 use Rattle.lane_core.specs.declared.data.LaneInput.{LaneInput}
 use Rattle.lane_core.specs.declared.data.LaneInput.TheVariants.{Write, Read, Take, Timeout}
 use Rattle.lane_core.specs.declared.data.LaneOut.{LaneOut}
-use Rattle.lane_core.specs.declared.data.LaneOut.TheVariants.{Nothing as NoOut, Writes, Reads, Reply as Replied}
-use Rattle.lane_core.specs.declared.data.Change.{Change}
-use Rattle.lane_core.specs.declared.data.Change.TheVariants.{Nothing, Begins, Counts, Waits, Ends}
-use Rattle.lane_core.specs.declared.data.Made.{Made}
+use Rattle.lane_core.specs.declared.data.LaneOut.TheVariants.{Nothing, Writes, Reads, Reply}
+use Rattle.lane_core.specs.Work.{kind_in, pending_in, work_after, taking_in, waiting_work}
 
--- what is kept of a live request: its version, the topology at that version, and its work
-abbrev pub Kept : Type 0
-Kept = Live Topology Work
-
--- a lane: whose it is, how many requests it began, and those that are live, in the order of their begins
+-- Its name, how many requests it has begun, and the live ones in the order of their begins. Each holds the state of
+-- the topology that it uses.
 pub record LaneView : Type 0 where
   pub lane : LaneId
   pub begun : ℕ
-  pub live : List (OpId × Kept)
+  pub live : List (OpId × Live Topology Work)
 
--- the number of the lane's next request
+abbrev pub lane_first : LaneId → LaneView
+lane_first lane = record { lane = lane; begun = 0; live = [] }
+
+-- a restart loses the live requests, and the count of begins stays
+abbrev pub lane_restarted : LaneView → LaneView
+lane_restarted lane = record lane { live = [] }
+
+-- the number of the next request
 abbrev pub next_op : LaneView → OpId
-next_op view = record { 0 = view.begun + 1 }
+next_op lane = record { 0 = lane.begun + 1 }
 
--- ---- where a request goes
-
--- to replicas, of which so many have to answer; or it is answered at once
-pub data Way : Type 0 where
-  Goes : List Replica → ℕ → Way
-  Stops : Reply → Way
-
-abbrev pub way_by : Kind → Option Directions → Way
-way_by kind None = Stops NoTable
-way_by ReadKind (Some directions) = Goes directions.reads directions.read_need
-way_by WriteKind (Some directions) = Goes directions.writes directions.write_need
-
--- the lane's host must be a member, and the table there
-abbrev pub way_in : Topology → LaneId → Kind → TableId → Token → Way
-way_in state lane kind table token =
-    if is_member state.members lane.host then way_by kind (directions_in state table token.value) else Stops NotMember
-
--- ---- a request's work
-
-abbrev pub kind_in : Work → Kind
-kind_in (WriteWork write) = WriteKind
-kind_in (ReadWork read) = ReadKind
-
--- the name, the targets and the need of what waits
-abbrev pub pending_in : Work → Pending
-pending_in (WriteWork write) = write
-pending_in (ReadWork read) = read.request
-
--- the work of a request that begins
-abbrev pub first_work : Kind → LaneId → OpId → List Replica → ℕ → Work
-first_work WriteKind lane op targets need = WriteWork (pending_of lane op targets need)
-first_work ReadKind lane op targets need = ReadWork (pending_read_of lane op targets need)
-
-abbrev pub work_after : Work → Answer → Work
-work_after (WriteWork write) answer = WriteWork (after_answer write answer)
-work_after (ReadWork read) answer = ReadWork (read_after_answer read answer)
-
-abbrev pub taking_in : Work → Answer → Taking
-taking_in (WriteWork write) answer = write_taking write answer
-taking_in (ReadWork read) answer = read_taking read answer
-
--- ---- the rule
+-- ---- rules
 
 -- a lane has at most so many live requests
 abbrev pub most_live : ℕ
 most_live = 8
 
-abbrev pub full_rule : LaneView → Option EventRule
-full_rule view = if nat_le most_live (length view.live) then Some LaneFull else None
+abbrev pub begin_rule : LaneView → Option EventRule
+begin_rule lane = if nat_le most_live (length lane.live) then Some LaneFull else None
 
--- the first rule of the event that the lane's own state decides
+-- the first rule that an input breaks
 abbrev pub lane_rule : LaneView → LaneInput → Option EventRule
-lane_rule view (Write table token cell snapshot) = full_rule view
-lane_rule view (Read table token snapshot) = full_rule view
-lane_rule view (Take answer) = None
-lane_rule view (Timeout op) = if is_some (request_of view.live op) then None else Some NoRequest
+lane_rule lane (Write table token cell snapshot) = begin_rule lane
+lane_rule lane (Read table token snapshot) = begin_rule lane
+lane_rule lane (Take answer) = None
+lane_rule lane (Timeout op) = if is_some (request_of lane.live op) then None else Some NoRequest
 
--- ---- what changes
+-- ---- begins
 
-abbrev pub change_at_begin : Kind → LaneId → OpId → Way → Change
-change_at_begin kind lane op (Goes targets need) = Begins (first_work kind lane op targets need)
-change_at_begin kind lane op (Stops reply) = Counts
+-- a request goes to replicas, of which so many have to answer, or is answered at once
+pub data Way : Type 0 where
+  Goes : List Replica → ℕ → Way
+  Ends : ClientReply → Way
 
-abbrev pub change_by : OpId → Work → Taking → Change
-change_by op work (Decided reply) = Ends op
-change_by op work Waiting = Waits op work
+abbrev pub way_by : Kind → Option Directions → Way
+way_by kind None = Ends NoTable
+way_by ReadKind (Some directions) = Goes directions.reads directions.read_need
+way_by WriteKind (Some directions) = Goes directions.writes directions.write_need
 
-abbrev pub change_at_answer : Option Kept → Answer → Change
-change_at_answer None answer = Nothing
-change_at_answer (Some kept) answer = change_by answer.op (work_after kept.work answer) (taking_in kept.work answer)
+-- the lane's host must be a member, and the table there
+abbrev pub way_in : Topology → HostId → Kind → TableId → ℤ → Way
+way_in state host kind table token =
+    if is_member state.members host then way_by kind (directions_in state table token) else Ends NotMember
 
-abbrev pub change_of : LaneView → LaneInput → Change
-change_of view (Write table token cell snapshot) =
-    change_at_begin WriteKind view.lane (next_op view) (way_in snapshot view.lane WriteKind table token)
-change_of view (Read table token snapshot) =
-    change_at_begin ReadKind view.lane (next_op view) (way_in snapshot view.lane ReadKind table token)
-change_of view (Take answer) = change_at_answer (request_of view.live answer.op) answer
-change_of view (Timeout op) = Ends op
-
--- the topology that a request holds on to, where the input begins one
-abbrev pub held_by : LaneInput → Option Topology
-held_by (Write table token cell snapshot) = Some snapshot
-held_by (Read table token snapshot) = Some snapshot
-held_by input = None
-
--- the live requests with the next one, which holds on to its topology
-abbrev pub with_next : LaneView → Option Topology → Work → List (OpId × Kept)
-with_next view None work = view.live
-with_next view (Some state) work =
-    view.live ++ (next_op view, record { version = state.version; held = state; work = work }) ∷ []
-
-abbrev pub changed : LaneView → Option Topology → Change → LaneView
-changed view held Nothing = view
-changed view held (Begins work) = record view { begun = view.begun + 1; live = with_next view held work }
-changed view held Counts = record view { begun = view.begun + 1 }
-changed view held (Waits op work) = record view { live = with_work view.live op work }
-changed view held (Ends op) = record view { live = without view.live op }
-
--- the lane after the event
-abbrev pub lane_after : LaneView → LaneInput → LaneView
-lane_after view input = changed view (held_by input) (change_of view input)
-
--- the lane after a restart: no request is live, and the numbers go on
-abbrev pub lane_restarted : LaneView → LaneView
-lane_restarted view = record view { live = [] }
-
--- ---- what comes out
-
-abbrev pub write_ask : LaneId → OpId → Version → TableId → Token → Cell → Replica → WriteAsk
-write_ask lane op version table token cell to =
-    record { lane = lane; op = op; version = version; table = table; token = token; cell = cell; to = to }
-
-abbrev pub read_ask : LaneId → OpId → Version → TableId → Token → Replica → ReadAsk
-read_ask lane op version table token to =
-    record { lane = lane; op = op; version = version; table = table; token = token; to = to }
-
+-- one ask for each target, in their order, or a reply
 abbrev pub write_out : LaneId → OpId → Version → TableId → Token → Cell → Way → LaneOut
 write_out lane op version table token cell (Goes targets need) =
-    Writes (map (write_ask lane op version table token cell) targets)
-write_out lane op version table token cell (Stops reply) = Replied op version WriteKind reply
+    Writes (map (λ to. record { lane = lane; op = op; version = version; table = table; token = token; cell = cell; to = to }) targets)
+write_out lane op version table token cell (Ends reply) = Reply op version WriteKind reply
 
 abbrev pub read_out : LaneId → OpId → Version → TableId → Token → Way → LaneOut
-read_out lane op version table token (Goes targets need) = Reads (map (read_ask lane op version table token) targets)
-read_out lane op version table token (Stops reply) = Replied op version ReadKind reply
+read_out lane op version table token (Goes targets need) =
+    Reads (map (λ to. record { lane = lane; op = op; version = version; table = table; token = token; to = to }) targets)
+read_out lane op version table token (Ends reply) = Reply op version ReadKind reply
 
--- the reply where an answer decides its request, and else nothing
+-- the work that begins
+abbrev pub write_work : LaneId → OpId → Way → Option Work
+write_work lane op (Goes targets need) = Some (Writing (pending_of lane op targets need))
+write_work lane op (Ends reply) = None
+
+abbrev pub read_work : LaneId → OpId → Way → Option Work
+read_work lane op (Goes targets need) = Some (Reading (pending_read_of lane op targets need))
+read_work lane op (Ends reply) = None
+
+-- the lane with its next request, which lives where it has work
+abbrev pub with_next : LaneView → Topology → Option Work → LaneView
+with_next lane snapshot None = record lane { begun = lane.begun + 1 }
+with_next lane snapshot (Some work) =
+    record lane {
+      begun = lane.begun + 1;
+      live = lane.live ++ (next_op lane, record { version = snapshot.version; held = snapshot; work = work }) ∷ [];
+    }
+
+-- ---- answers
+
+-- the work that goes on after an answer, where its request is live and the answer does not decide it
+abbrev pub work_taking : Answer → Option (Live Topology Work) → Option Work
+work_taking answer None = None
+work_taking answer (Some kept) = waiting_work (taking_in kept.work answer) (work_after kept.work answer)
+
 abbrev pub reply_by : OpId → Version → Kind → Taking → LaneOut
-reply_by op version kind (Decided reply) = Replied op version kind reply
-reply_by op version kind Waiting = NoOut
+reply_by op version kind (Decided reply) = Reply op version kind reply
+reply_by op version kind Waiting = Nothing
 
-abbrev pub out_at_answer : Option Kept → Answer → LaneOut
-out_at_answer None answer = NoOut
-out_at_answer (Some kept) answer =
-    reply_by answer.op kept.version (kind_in kept.work) (taking_in kept.work answer)
+-- a reply where the answer decides its request
+abbrev pub out_taking : Answer → Option (Live Topology Work) → LaneOut
+out_taking answer None = Nothing
+out_taking answer (Some kept) = reply_by answer.op kept.version (kind_in kept.work) (taking_in kept.work answer)
 
-abbrev pub out_at_timeout : OpId → Option Kept → LaneOut
-out_at_timeout op None = NoOut
-out_at_timeout op (Some kept) = Replied op kept.version (kind_in kept.work) (timeout_of (pending_in kept.work))
+-- the live requests where the one of this number goes on with the work, or lives no longer
+abbrev pub live_with : List (OpId × Live Topology Work) → OpId → Option Work → List (OpId × Live Topology Work)
+live_with live op None = without live op
+live_with live op (Some work) = with_work live op work
 
+-- the reply to a request that is given up
+abbrev pub out_given_up : OpId → Option (Live Topology Work) → LaneOut
+out_given_up op None = Nothing
+out_given_up op (Some kept) = Reply op kept.version (kind_in kept.work) (timeout_of (pending_in kept.work))
+
+-- ---- the three definitions
+
+-- the work that an input leaves to its request
+abbrev pub lane_work : LaneView → LaneInput → Option Work
+lane_work lane (Write table token cell snapshot) =
+    write_work lane.lane (next_op lane) (way_in snapshot lane.lane.host WriteKind table token.value)
+lane_work lane (Read table token snapshot) =
+    read_work lane.lane (next_op lane) (way_in snapshot lane.lane.host ReadKind table token.value)
+lane_work lane (Take answer) = work_taking answer (request_of lane.live answer.op)
+lane_work lane (Timeout op) = None
+
+-- what an input makes of the lane
+abbrev pub lane_after : LaneView → LaneInput → LaneView
+lane_after lane (Write table token cell snapshot) =
+    with_next lane snapshot (lane_work lane (Write table token cell snapshot))
+lane_after lane (Read table token snapshot) = with_next lane snapshot (lane_work lane (Read table token snapshot))
+lane_after lane (Take answer) =
+    record lane { live = live_with lane.live answer.op (lane_work lane (Take answer)) }
+lane_after lane (Timeout op) = record lane { live = without lane.live op }
+
+-- what the lane gives out
 abbrev pub lane_out : LaneView → LaneInput → LaneOut
-lane_out view (Write table token cell snapshot) =
-    write_out view.lane (next_op view) snapshot.version table token cell (way_in snapshot view.lane WriteKind table token)
-lane_out view (Read table token snapshot) =
-    read_out view.lane (next_op view) snapshot.version table token (way_in snapshot view.lane ReadKind table token)
-lane_out view (Take answer) = out_at_answer (request_of view.live answer.op) answer
-lane_out view (Timeout op) = out_at_timeout op (request_of view.live op)
+lane_out lane (Write table token cell snapshot) =
+    write_out lane.lane (next_op lane) snapshot.version table token cell (way_in snapshot lane.lane.host WriteKind table token.value)
+lane_out lane (Read table token snapshot) =
+    read_out lane.lane (next_op lane) snapshot.version table token (way_in snapshot lane.lane.host ReadKind table token.value)
+lane_out lane (Take answer) = out_taking answer (request_of lane.live answer.op)
+lane_out lane (Timeout op) = out_given_up op (request_of lane.live op)
 
--- what is made ahead
-abbrev pub lane_made : LaneView → LaneInput → Made
-lane_made view input = record { out = lane_out view input; change = change_of view input }
+-- an answer is to this lane, and the count of begins can rise
+abbrev pub IsFor : LaneView → LaneInput → Type 0
+IsFor lane (Write table token cell snapshot) = lane.begun + 1 < 2 ^ 64
+IsFor lane (Read table token snapshot) = lane.begun + 1 < 2 ^ 64
+IsFor lane (Take answer) = answer.lane ≡ lane.lane
+IsFor lane (Timeout op) = Unit {0}

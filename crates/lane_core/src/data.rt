@@ -1,5 +1,3 @@
-//! What goes into a lane and what comes out.
-use crate::work::Work;
 use base_ids::{OpId, TableId, Version};
 use cell_merge::Cell;
 use meta_snap::Snapshot;
@@ -8,82 +6,53 @@ use shared_value::Shared;
 use stage_graph::Kind;
 use token_ring::Token;
 
-/// The lane's part of an event.
+/// What happens to a lane.
 #[derive(Drop)]
 pub enum LaneInput {
-    /// The lane begins to write a cell.
+    /// It begins to write a cell.
     Write {
-        /// The table that is written.
+        /// The table.
         table: TableId,
-        /// The token that is written.
+        /// The token.
         token: Token,
-        /// The cell to write.
+        /// The cell.
         cell: Cell,
-        /// The topology at the version of the request.
+        /// The topology that the request uses.
         snapshot: Shared<Snapshot>,
     },
-    /// The lane begins to read a cell.
+    /// It begins to read a cell.
     Read {
-        /// The table that is read.
+        /// The table.
         table: TableId,
-        /// The token that is read.
+        /// The token.
         token: Token,
-        /// The topology at the version of the request.
+        /// The topology that the request uses.
         snapshot: Shared<Snapshot>,
     },
-    /// The lane takes an answer.
+    /// It takes an answer to one of its requests.
     Take(Answer),
-    /// The lane gives a request up.
+    /// It gives up a live request.
     Timeout(OpId),
 }
 
-/// What comes out of a lane.
+/// What a lane gives out.
 #[derive(Drop)]
 pub enum LaneOut {
     /// Nothing.
     Nothing,
-    /// The asks of a write, one for each target, in their order.
+    /// The asks of a write, one for each target.
     Writes(WriteAskList),
-    /// The asks of a read, one for each target, in their order.
+    /// The asks of a read, one for each target.
     Reads(ReadAskList),
-    /// What the client is told of a request, which ends by it.
+    /// What a client is told. The request lives no longer.
     Reply {
         /// The number of the request.
         op: OpId,
-        /// Its version.
+        /// The version of the topology that it used.
         version: Version,
-        /// Whether it writes or reads.
+        /// Whether it read or wrote.
         kind: Kind,
-        /// What the client is told.
+        /// The reply.
         reply: Reply,
     },
-}
-
-/// What an input changes in a lane.
-#[derive(Drop)]
-pub(crate) enum Change {
-    /// Nothing: an answer to no live request.
-    Nothing,
-    /// The next request begins and waits.
-    Begins(Work),
-    /// The next request begins and is answered at once.
-    Counts,
-    /// A live request waits on, as it stands after an answer.
-    Waits {
-        /// The number of the request.
-        op: OpId,
-        /// Its work after the answer.
-        work: Work,
-    },
-    /// A live request ends.
-    Ends(OpId),
-}
-
-/// What is made ahead of an input.
-#[derive(Drop)]
-pub(crate) struct Made {
-    /// What the lane will put out.
-    pub(crate) out: LaneOut,
-    /// What will change.
-    pub(crate) change: Change,
 }

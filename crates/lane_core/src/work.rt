@@ -1,12 +1,12 @@
-//! What a live request does: it waits for the answers to a write or to a read.
+//! What a request that waits does.
 ghost use Rattle.std.specs.Prelude.{◌≡◌};
 ghost use Rattle.quorum_ops.specs.Pending.{Names, IsUndecided, timeout_of};
-ghost use Rattle.lane_core.specs.Lane.{kind_in, pending_in, work_after, taking_in};
+ghost use Rattle.lane_core.specs.Work.{kind_in, pending_in, work_after, taking_in, waiting_work};
 
 use quorum_ops::{Answer, ReadOp, Reply, Taking, WriteOp};
 use stage_graph::Kind;
 
-/// What a live request does: it waits for the answers to a write or to a read.
+/// What a live request waits for: the answers to a write or to a read.
 #[derive(Drop)]
 pub enum Work {
     /// It writes.
@@ -48,13 +48,23 @@ impl Work {
         }
     }
 
-    /// Whether it writes or reads.
-    pub fn kind(&self) -> Kind
+    /// Whether it reads or writes.
+    pub(crate) fn kind(&self) -> Kind
         ensures { result ≡ kind_in self.now }
     {
         match self {
             Work::Write(_) => Kind::Write,
             Work::Read(_) => Kind::Read,
         }
+    }
+}
+
+/// The work that goes on, where nothing is decided.
+pub(crate) fn waiting_work(taking: &Taking, work: Work) -> Option<Work>
+    ensures { result ≡ waiting_work taking.now work }
+{
+    match taking {
+        Taking::Decided(_) => None,
+        Taking::Waiting => Some(work),
     }
 }

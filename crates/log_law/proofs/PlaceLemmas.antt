@@ -79,10 +79,9 @@ found_relocation_at tables session p f =
     (shows.0, ap (found_relocation session.0 (at_number p.tablet)) f.there ∙ shows.1, shows.2)
 
 -- what is found is the place of the session's keys
-pub found_is : (first : Topology) → IsStill first → (log : List Command) → IsLegalLog first log → (n : ℕ) → n ≤ length log → are_distinct (state_at first log n).tables ≡ true → (session : Session) (p : SessionPlace) → place_of_session (state_at first log n).tables session ≡ Some p → IsPlaceOf session (state_at first log n) p
-found_is first still log legal n within distinct session p h =
+pub keys_of_found : (first : Topology) → IsStill first → (log : List Command) → IsLegalLog first log → (n : ℕ) → n ≤ length log → (session : Session) (p : SessionPlace) → IsFound (state_at first log n).tables session p.table p.tablet → IsPlaceOf session (state_at first log n) p
+keys_of_found first still log legal n within session p f =
     let s : Topology = state_at first log n in
-    let f = found_place s.tables session p distinct h in
     let m = found_relocation_at s.tables session p f in
     let one = its_start first still log legal n within session.0 p.table (at_number p.tablet) m.0 m.1 in
     let from : session.0 ≤ n = one.numbered.1 in
@@ -96,10 +95,12 @@ found_is first still log legal n within distinct session p h =
           (let lies' : tablet_at one.move.log2 token ≡ one.tablet.0 = ap (λ k. tablet_at k token) log2 ∙ (lies ∙ at.1) in
           let shows : Shows session.0 (view s p.table token) one.move = subst (λ (x : TableId). Shows session.0 (view s x token) one.move) (sym at.0) (keys.inside token lies') in
           stage_of_shown session.0 (view s p.table token) one.move shows);
-      outside = λ id token stage shown.
-          (let is = keys.outside id token stage shown in
-          (is.0 ∙ sym at.0, ap (λ k. tablet_at k token) (sym log2) ∙ (is.1 ∙ sym at.1)));
+      outside = λ id token stage shown. (let is = keys.outside id token stage shown in (is.0 ∙ sym at.0, ap (λ k. tablet_at k token) (sym log2) ∙ (is.1 ∙ sym at.1)));
     }
+
+pub found_is : (first : Topology) → IsStill first → (log : List Command) → IsLegalLog first log → (n : ℕ) → n ≤ length log → are_distinct (state_at first log n).tables ≡ true → (session : Session) (p : SessionPlace) → place_of_session (state_at first log n).tables session ≡ Some p → IsPlaceOf session (state_at first log n) p
+found_is first still log legal n within distinct session p h =
+    keys_of_found first still log legal n within session p (found_place (state_at first log n).tables session p distinct h)
 
 none_by : (t : Table) (rest : List Table) (session : Session) (o : Option ℕ) → position (has_session session) t.map.list ≡ o → place_or_later t.id o (place_of_session rest session) ≡ None → (position (has_session session) t.map.list ≡ None) × (place_of_session rest session ≡ None)
 none_by t rest session None e h = (e, h)

@@ -22,7 +22,6 @@ use Rattle.tablet_map.proofs.Members.{host_of}
 use Rattle.tablet_map.proofs.Counts.{one_if, count_behind, count_replaced}
 use Rattle.topo_state.specs.Lists.{Cleaned, Leaving, Nobody, Pending, cleaned_by, stage_in}
 use Rattle.log_law.specs.Steps.{Advances, Finishes, Regroups, Reverts, Starts, Stays, ViewStep}
-use Rattle.log_law.proofs.LoggedRelocations.{keeps_session}
 use Rattle.log_law.proofs.Turns.{carries, every_step, lists_carry, lists_miss, misses, reads_stay, same_selector}
 
 -- the table

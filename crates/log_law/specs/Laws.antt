@@ -11,6 +11,8 @@ use Rattle.stage_graph.specs.declared.stage.Stage.TheVariants.{AllowWriteBothRea
 use Rattle.token_ring.specs.declared.token.Token.{Token}
 use Rattle.tablet_map.specs.declared.tablet.Tablet.{Tablet}
 use Rattle.tablet_map.specs.Tablets.{IsSound}
+use Rattle.topo_state.specs.declared.moves.Move.{Move}
+use Rattle.topo_state.specs.Moves.{move_of}
 use Rattle.topo_state.specs.declared.command.Command.{Command}
 use Rattle.topo_state.specs.State.{Topology, is_member}
 use Rattle.topo_state.specs.Lists.{stage_in, chosen, reads_of, writes_of}
@@ -22,7 +24,7 @@ use Rattle.group0_log.specs.Log.{IsLegalLog, state_of, state_at, state_with, com
 use Rattle.group0_log.specs.Versions.{raises, IsKnown, IsLatest, IsFenced}
 use Rattle.log_law.specs.Stages.{stage_at, view_with, stage_with, IsNotLater, IsFrom, IsReachedAt, IsReachedBy, IsEnteredFrom}
 use Rattle.log_law.specs.Steps.{ViewStep}
-use Rattle.log_law.specs.Relocations.{IsItsStart, IsPlaceOf, AreDecided}
+use Rattle.log_law.specs.Relocations.{IsItsStart, IsMoveOf, IsPlaceOf, AreDecided}
 use Rattle.log_law.specs.Pairs.{IsPair}
 
 -- a statement holds of each legal log from each opening
@@ -84,12 +86,17 @@ pub record HasSessions (first : Topology) (log : List Command) : Type 0 where
       (id : TableId) (token : Token) → stage_at first log earlier session id token.value ≡ None →
       stage_at first log later session id token.value ≡ None
 
--- The place at which a session is found is that of its keys; where none is found, no key shows the session.
+-- Where a session is found there are its keys, and the move that a state has of it is theirs; where none is found, or
+-- the state has no move of it, no key shows it.
 pub record HasPlaces (first : Topology) (log : List Command) : Type 0 where
   pub found : (count : ℕ) → count ≤ length log → (session : Session) (place : SessionPlace) →
       place_of_session (state_at first log count).tables session ≡ Some place →
       IsPlaceOf session (state_at first log count) place
   pub absent : (count : ℕ) (session : Session) → place_of_session (state_at first log count).tables session ≡ None →
+      (id : TableId) (token : Token) → stage_at first log count session.0 id token.value ≡ None
+  pub moves : (count : ℕ) → count ≤ length log → (session : Session) (move : Move) →
+      move_of (state_at first log count) session ≡ Some move → IsMoveOf session (state_at first log count) move
+  pub none_moves : (count : ℕ) (session : Session) → move_of (state_at first log count) session ≡ None →
       (id : TableId) (token : Token) → stage_at first log count session.0 id token.value ≡ None
 
 -- each decision is that of the command of its number

@@ -35,6 +35,7 @@ pub fn serve_cleanup<S: Store>(
 ) -> Cleanup
     ensures cleanup { result ≡ cleanup_of state.now host session }
     ensures cells { S.cells store.new ≡ cleaned_cells (S.cells store.old) state.now host session }
+    ensures ordered { IsOrdered (S.cells store.old) → IsOrdered (S.cells store.new) }
     ensures not_mine { result ≡ Cleanup.NotMine → store.new ≡ store.old }
     ensures room { S.spare store.old ≤ S.spare store.new }
     ensures same_runs { (t : TableId) → S.runs store.new t ≡ S.runs store.old t }
@@ -56,6 +57,7 @@ fn cleanup_by(host: HostId, found: &Option<Move>) -> Cleanup
 fn clean<S: Store>(store: &mut S, host: HostId, found: &Option<Move>) -> Cleanup
     ensures cleanup { result ≡ cleanup_by host found.now }
     ensures cells { S.cells store.new ≡ cleaned_by (S.cells store.old) host found.now }
+    ensures ordered { IsOrdered (S.cells store.old) → IsOrdered (S.cells store.new) }
     ensures not_mine { result ≡ Cleanup.NotMine → store.new ≡ store.old }
     ensures room { S.spare store.old ≤ S.spare store.new }
     ensures same_runs { (t : TableId) → S.runs store.new t ≡ S.runs store.old t }

@@ -44,7 +44,7 @@ pub fn serve_write<S: Store>(store: &mut S, fence: Version, ask: &WriteAsk) -> A
     ensures stale { IsTrue (is_stale ask.now.version fence) → store.new ≡ store.old }
     ensures map { (t : TableId) (k : Token) → cell_at (S.cells store.new) t k
         ≡ (if is_stale ask.now.version fence then cell_at (S.cells store.old) t k
-          else greater_cell (cell_at (S.cells store.old) t k) (only_at ask.now.table ask.now.token ask.now.cell t k)) }
+        else greater_cell (cell_at (S.cells store.old) t k) (only_at ask.now.table ask.now.token ask.now.cell t k)) }
     ensures same_runs { (t : TableId) → S.runs store.new t ≡ S.runs store.old t }
 {
     if ask.version.0 >= fence.0 {

@@ -1,6 +1,6 @@
 -- Found tables, the logarithms of their run counts, and a table that gets its first run.
-use Rattle.std.proofs.Common.{◌≡◌, ◌≢◌, ℕ, zero, suc, ◌+◌, ◌-◌, ◌*◌, ◌^◌, ◌<◌, ◌≤◌, ◌==◌, ◌&&◌, nat_lt, nat_le, not, min, max, Bool, true, false, cond, Option, Some, None, Result, Ok, Err, List, [], ◌∷◌, ◌++◌, length, get_or, set, map, filter, refl, ap, sym, subst, ◌∙◌, arith, length-append, inl, inr}
-use Rattle.std.specs.Prelude.{OnOk, OnErr}
+use Rattle.std.proofs.Common.{◌≡◌, ◌≢◌, ℕ, zero, suc, ◌-◌, ◌^◌, ◌<◌, ◌≤◌, ◌==◌, ◌&&◌, not, true, false, cond, Option, None, Result, Ok, Err, List, [], ◌∷◌, ◌++◌, length, get_or, set, map, filter, refl, ap, sym, subst, ◌∙◌, arith, inl, inr}
+use Rattle.std.specs.Prelude.{OnOk}
 use Rattle.std.proofs.lemmas.Bool.{cases_lt}
 use Rattle.std.proofs.lemmas.Bool.Decides.{nat_tests}
 use Rattle.std.proofs.Math.Pow.{pow-lt}
@@ -10,8 +10,7 @@ use Rattle.token_ring.specs.declared.ring.TokenRange.{TokenRange}
 use Rattle.token_ring.specs.Ring.{place, tablet_at, first_place, last_place}
 use Rattle.token_ring.proofs.Places.{place_below, place_pos, tablet_below}
 use Rattle.replica_store.specs.declared.store.Stored.{Stored}
-use Rattle.replica_store.specs.Cells.{Cells, IsOrdered, rank, rank_of, is_within, is_inside, is_above, cell_at, range_cells, outside}
-use Rattle.replica_store.specs.Columns.{end_of}
+use Rattle.replica_store.specs.Cells.{Cells, IsOrdered, is_within, is_inside, cell_at, range_cells, outside}
 use Rattle.replica_store.proofs.RankLemmas.{is_within-rank}
 use Rattle.replica_store.proofs.RangeLemmas.{IsOrdered-filter, filter-same}
 use Rattle.replica_store.proofs.MapLemmas.{one_list, cell_at-outside}

@@ -1,17 +1,17 @@
 -- The cells of a range among runs: those of each run, one after another.
-use Rattle.std.proofs.Common.{◌≡◌, ◌≢◌, ◌↔◌, ◌⊎◌, ℕ, zero, suc, ◌+◌, ◌-◌, ◌/◌, ◌<◌, ◌≤◌, ◌&&◌, ◌==◌, nat_lt, nat_le, Bool, true, false, cond, IsTrue, Option, List, [], ◌∷◌, ◌++◌, length, take, drop, get_or, min, map, filter, refl, ap, sym, subst, ◌∙◌, arith, inl, inr, length-append, length-take, append-nil}
+use Rattle.std.proofs.Common.{◌≡◌, ◌↔◌, ◌⊎◌, ℕ, zero, suc, ◌+◌, ◌-◌, ◌/◌, ◌<◌, ◌≤◌, ◌&&◌, nat_lt, Bool, true, false, IsTrue, Option, List, [], ◌∷◌, ◌++◌, length, take, drop, get_or, map, filter, refl, ap, sym, subst, ◌∙◌, arith, inl, inr, length-append, length-take, append-nil}
 use Rattle.std.proofs.lemmas.Bool.Decides.{nat_tests}
-use Rattle.std.proofs.lemmas.List.{map-append, take-append-drop, drop_more, take_more, take_all, take-append-le}
+use Rattle.std.proofs.lemmas.List.{map-append, take-append-drop, drop_more, take_more, take_all}
 use Rattle.std.proofs.lemmas.List.Elements.{filter-append}
 use Rattle.base_ids.specs.declared.ids.TableId.{TableId}
-use Rattle.token_ring.specs.Ring.{place, width, tablet_at}
+use Rattle.token_ring.specs.Ring.{width, tablet_at}
 use Rattle.token_ring.specs.declared.token.Token.{Token}
 use Rattle.token_ring.specs.declared.ring.TokenRange.{TokenRange}
 use Rattle.replica_store.specs.declared.store.Stored.{Stored}
-use Rattle.replica_store.specs.Cells.{Cells, IsOrdered, rank, rank_of, is_inside, is_above, range_cells}
-use Rattle.replica_store.specs.Columns.{start_of, end_of}
+use Rattle.replica_store.specs.Cells.{Cells, IsOrdered, rank, is_inside, is_above, range_cells}
+use Rattle.replica_store.specs.Columns.{start_of}
 use Rattle.replica_store.proofs.RankLemmas.{is_wanted-rank}
-use Rattle.run_store.specs.Runs.{Filled, of_table, run_cells, IsOfTablet, IsRun, AreRuns, AreOrdered, IsGrouped}
+use Rattle.run_store.specs.Runs.{Filled, of_table, run_cells, IsOfTablet, AreRuns, AreOrdered}
 use Rattle.run_store.proofs.GroupLemmas.{tablet_mono, lower_first, run_cells-append}
 
 abbrev is_wanted : TableId → TokenRange → Option Token → TableId × Stored → Bool
@@ -100,14 +100,17 @@ take_some (suc max) (x ∷ xs) most some empty = cc
 
 pub lends_more : {X : Type 0} (more : Bool) (n : ℕ) (xs ys : List X) → (IsTrue more ↔ ((n < length xs) ⊎ IsTrue (nat_lt 0 (length ys)))) → n ≤ length xs → IsTrue more ↔ (n < length (xs ++ ys))
 lends_more more n xs ys says within =
-    let long = length-append xs ys in
-    (λ yes. elim (says.0 yes) [ | inl here ↦ omega arith | inr further ↦ later further ],
-     λ below. elim (cases_of n (length xs)) [ | inl here ↦ says.1 (inl here) | inr end ↦ says.1 (inr (some end below)) ])
+    let long = length-append xs ys in (
+      λ yes. elim (says.0 yes) [ inl here ↦ omega arith | inr further ↦ later further ],
+      λ below. elim (cases_of n (length xs)) [ inl here ↦ says.1 (inl here) | inr end ↦ says.1 (inr (some end below)) ],
+    )
   where
     later : IsTrue (nat_lt 0 (length ys)) → n < length (xs ++ ys)
     later further = grind (arith, nat_tests, length-append xs ys)
+
     cases_of : (a b : ℕ) → (a < b) ⊎ (b ≤ a)
     cases_of a b = grind arith
+
     some : length xs ≤ n → n < length (xs ++ ys) → IsTrue (nat_lt 0 (length ys))
     some end below = grind (arith, nat_tests, length-append xs ys)
 

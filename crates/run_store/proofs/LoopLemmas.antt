@@ -1,16 +1,14 @@
 -- Loops over the runs of a table: room made in each, and a range taken out of each.
-use Rattle.std.proofs.Common.{◌≡◌, ℕ, zero, suc, ◌+◌, ◌^◌, ◌<◌, ◌≤◌, ◌&&◌, nat_lt, nat_le, not, min, Bool, true, false, cond, List, [], ◌∷◌, ◌++◌, length, take, drop, get_or, set, map, filter, refl, ap, sym, subst, ◌∙◌, arith, ◌⊎◌, inl, inr}
+use Rattle.std.proofs.Common.{◌≡◌, ℕ, zero, suc, ◌+◌, ◌^◌, ◌<◌, ◌≤◌, not, true, false, cond, List, [], ◌∷◌, ◌++◌, length, get_or, set, map, refl, ap, sym, ◌∙◌, arith, ◌⊎◌, inl, inr}
 use Rattle.std.proofs.lemmas.Bool.Decides.{nat_tests}
 use Rattle.std.proofs.lemmas.List.Elements.{filter-append, AllWithin-more_set}
 use Rattle.base_ids.specs.declared.ids.TableId.{TableId}
 use Rattle.token_ring.specs.Ring.{tablet_at}
-use Rattle.token_ring.specs.declared.token.Token.{Token}
 use Rattle.token_ring.specs.declared.ring.TokenRange.{TokenRange}
 use Rattle.replica_store.specs.declared.store.Stored.{Stored}
-use Rattle.replica_store.specs.Cells.{Cells, rank, rank_of, is_inside, outside}
-use Rattle.replica_store.specs.Columns.{end_of}
+use Rattle.replica_store.specs.Cells.{Cells, rank, is_inside, outside}
 use Rattle.replica_store.proofs.RankLemmas.{is_inside-rank}
-use Rattle.run_store.specs.Runs.{Filled, of_table, run_cells, IsOfTablet, IsRun, AreRuns, IsGrouped, least_spare}
+use Rattle.run_store.specs.Runs.{Filled, of_table, run_cells, IsOfTablet, AreRuns, IsGrouped, least_spare}
 use Rattle.run_store.proofs.GroupLemmas.{lower_first, run_read}
 
 pub stored-set : (runs : List Filled) (i : ℕ) (old new : Filled) → old ≡ get_or runs i old → new.stored ≡ old.stored → map (λ (run : Filled). run.stored) (set runs i new) ≡ map (λ (run : Filled). run.stored) runs

@@ -1,9 +1,9 @@
 -- A run cut into those of its tablet's children, and two runs joined into that of their tablets' parent.
-use Rattle.std.proofs.Common.{◌≡◌, ℕ, zero, suc, ◌+◌, ◌-◌, ◌*◌, ◌/◌, ◌^◌, ◌<◌, ◌≤◌, nat_lt, max, Bool, true, false, cond, List, [], ◌∷◌, ◌++◌, length, take, drop, get_or, refl, ap, sym, subst, ◌∙◌, arith, append-nil, append_assoc, length-append}
+use Rattle.std.proofs.Common.{◌≡◌, ℕ, zero, suc, ◌+◌, ◌*◌, ◌/◌, ◌^◌, ◌<◌, ◌≤◌, nat_lt, max, true, false, cond, List, [], ◌∷◌, ◌++◌, length, take, drop, get_or, refl, ap, sym, ◌∙◌, arith, append-nil, append_assoc, length-append}
 use Rattle.std.proofs.lemmas.Bool.Decides.{nat_tests}
 use Rattle.std.proofs.lemmas.List.{take_more, take_all}
 use Rattle.base_ids.specs.declared.ids.TableId.{TableId}
-use Rattle.token_ring.specs.Ring.{place, width, tablet_at, first_place}
+use Rattle.token_ring.specs.Ring.{place, width, first_place}
 use Rattle.token_ring.proofs.Places.{width_pos, width_half, in_tablet, tablet_low, tablet_high, parent_tablet, few_tablets}
 use Rattle.std.proofs.Math.Nat.{pow-suc}
 use Rattle.token_ring.specs.declared.token.Token.{Token}
@@ -11,7 +11,7 @@ use Rattle.replica_store.specs.declared.store.Stored.{Stored}
 use Rattle.replica_store.specs.Cells.{Cells, IsOrdered, IsAfter, rank, rank_of}
 use Rattle.replica_store.specs.Columns.{first_from}
 use Rattle.run_store.specs.Runs.{Filled, of_table, run_cells, IsOfTablet, IsRun, AreRuns, IsGrouped}
-use Rattle.run_store.proofs.RunLemmas.{of_table-append, of_table-take, of_table-drop, IsOrdered-behind}
+use Rattle.run_store.proofs.RunLemmas.{of_table-append, of_table-take, IsOrdered-behind}
 use Rattle.run_store.proofs.GroupLemmas.{IsOrdered-append, run_cells-append, run_read}
 
 -- below the boundary lies the left child, from it on the right one

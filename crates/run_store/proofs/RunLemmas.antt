@@ -1,16 +1,16 @@
 -- What the searches and changes in one run are to the list of its cells with their table.
-use Rattle.std.proofs.Common.{◌≡◌, ℕ, zero, suc, ◌+◌, ◌<◌, ◌≤◌, true, false, Some, List, [], ◌∷◌, ◌++◌, length, take, drop, get_or, set, insert, map, filter, refl, ap, sym, ◌∙◌, arith, ◌==◌}
+use Rattle.std.proofs.Common.{◌≡◌, ℕ, zero, suc, ◌+◌, ◌<◌, ◌≤◌, true, false, Some, List, [], ◌∷◌, ◌++◌, length, take, drop, get_or, set, insert, map, refl, ap, sym, ◌∙◌, arith, ◌==◌}
 use Rattle.std.proofs.lemmas.List.{drop-drop}
 use Rattle.base_ids.specs.declared.ids.TableId.{TableId}
 use Rattle.cell_merge.specs.declared.cell.Cell.{Cell}
 use Rattle.token_ring.specs.declared.token.Token.{Token}
 use Rattle.token_ring.specs.declared.ring.TokenRange.{TokenRange}
 use Rattle.replica_store.specs.declared.store.Stored.{Stored}
-use Rattle.replica_store.specs.Cells.{Cells, IsOrdered, IsAfter, rank, rank_of, cell_at, range_cells, outside}
+use Rattle.replica_store.specs.Cells.{Cells, IsOrdered, rank, rank_of, cell_at, range_cells, outside}
 use Rattle.replica_store.specs.Columns.{first_from, begins_at, start_of, end_of, put_at}
 use Rattle.replica_store.proofs.OrderLemmas.{first_from-le, before_first, from_first}
 use Rattle.replica_store.proofs.ColumnLemmas.{begins_at-index, begins_at-past, begins_at-within}
-use Rattle.replica_store.proofs.PutLemmas.{cell_at-found, cell_at-missing, greater, put_at-found, put_at-missing}
+use Rattle.replica_store.proofs.PutLemmas.{cell_at-found, greater, put_at-found, put_at-missing}
 use Rattle.replica_store.proofs.RangeLemmas.{wanted-run, outside-run}
 use Rattle.run_store.specs.Runs.{of_table}
 

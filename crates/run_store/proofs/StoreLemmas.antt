@@ -1,24 +1,22 @@
 -- The cells of a store are for each table those that lie in its runs, or among the rest.
-use Rattle.std.proofs.Common.{◌≡◌, ◌≢◌, ℕ, zero, suc, ◌+◌, ◌^◌, ◌<◌, ◌≤◌, ◌==◌, ◌&&◌, nat_lt, nat_le, not, min, Bool, true, false, cond, Option, Some, None, List, [], ◌∷◌, ◌++◌, length, get_or, set, map, filter, refl, ap, sym, subst, ◌∙◌, arith}
-use Rattle.std.specs.Prelude.{int_le}
-use Rattle.std.specs.Ordering.{int_eq, is_lt}
+use Rattle.std.proofs.Common.{◌≡◌, ℕ, zero, suc, ◌+◌, ◌<◌, ◌≤◌, ◌==◌, ◌&&◌, nat_lt, not, Bool, true, false, cond, Option, Some, None, List, [], ◌∷◌, length, get_or, set, map, filter, refl, ap, sym, subst, ◌∙◌, arith}
+use Rattle.std.specs.Ordering.{is_lt}
 use Rattle.std.proofs.lemmas.Bool.Decides.{nat_tests}
 use Rattle.base_ids.specs.declared.ids.TableId.{TableId}
 use Rattle.cell_merge.specs.Cell.{greater_cell, cell_order}
 use Rattle.cell_merge.specs.declared.cell.Cell.{Cell}
 use Rattle.token_ring.specs.declared.token.Token.{Token}
 use Rattle.token_ring.specs.declared.ring.TokenRange.{TokenRange}
-use Rattle.token_ring.specs.Ring.{place, tablet_at, first_place, last_place}
-use Rattle.token_ring.proofs.Places.{place_below, place_pos, tablet_below}
+use Rattle.token_ring.specs.Ring.{tablet_at}
 use Rattle.replica_store.specs.declared.store.Stored.{Stored}
 use Rattle.replica_store.specs.Cells.{Cells, IsOrdered, IsAfter, rank, rank_of, is_same, is_within, is_inside, is_above, cell_at, only_at, range_cells, outside}
-use Rattle.replica_store.specs.Columns.{put_at, end_of}
-use Rattle.replica_store.proofs.RankLemmas.{is_same-rank, is_within-rank}
+use Rattle.replica_store.specs.Columns.{put_at}
+use Rattle.replica_store.proofs.RankLemmas.{is_same-rank}
 use Rattle.replica_store.proofs.PutLemmas.{IsOrdered-put_at, cell_at-put_at}
 use Rattle.replica_store.proofs.RangeLemmas.{IsOrdered-filter}
-use Rattle.replica_store.proofs.MapLemmas.{one_list, cell_at-outside}
-use Rattle.run_store.specs.Runs.{of_table, tablet_cells}
-use Rattle.run_store.specs.Tables.{Grouped, IsOfTable, IsTable, AreTables, put_all, without, store_cells, cells_of, index_of, log2_of, log2s_of, least_room}
+use Rattle.replica_store.proofs.MapLemmas.{one_list}
+use Rattle.run_store.specs.Runs.{tablet_cells}
+use Rattle.run_store.specs.Tables.{Grouped, IsOfTable, IsTable, AreTables, put_all, without, store_cells, cells_of, index_of, log2s_of, least_room}
 
 pub one_table : (t u : TableId) → (t.0 == u.0) ≡ true → t ≡ u
 one_table t u same = let number : t.0 ≡ u.0 = grind (arith, nat_tests) in λ i. record { 0 = number i }
@@ -61,13 +59,13 @@ cell_at-without table [] t k = elim (table.0 == t.0) as (λ b. (let missing : Op
 cell_at-without table (x ∷ xs) t k =
     elim (x.0.0 == table.0) as (λ b. (x.0.0 == table.0) ≡ b → cell_at (cond (not b) (x ∷ without table xs) (without table xs)) t k ≡ cond (table.0 == t.0) None (cell_at (x ∷ xs) t k)) [
       | true ↦ λ own. cell_at-without table xs t k ∙ elim (table.0 == t.0) as (λ b. (table.0 == t.0) ≡ b → cond b None (cell_at xs t k) ≡ cond b None (cond (is_same x.0 x.1.token t k) (Some x.1.cell) (cell_at xs t k))) [
-          | true ↦ λ _. refl
-          | false ↦ λ apart. let other : (x.0.0 == t.0) ≡ false = grind (arith, nat_tests) in rw other
-        ] refl
+        | true ↦ λ _. refl
+        | false ↦ λ apart. let other : (x.0.0 == t.0) ≡ false = grind (arith, nat_tests) in rw other
+      ] refl
       | false ↦ λ stays. elim (table.0 == t.0) as (λ b. (table.0 == t.0) ≡ b → cond (is_same x.0 x.1.token t k) (Some x.1.cell) (cell_at (without table xs) t k) ≡ cond b None (cond (is_same x.0 x.1.token t k) (Some x.1.cell) (cell_at xs t k))) [
-          | true ↦ λ same. let other : (x.0.0 == t.0) ≡ false = grind (arith, nat_tests) in rw other (cell_at-without table xs t k ∙ rw same)
-          | false ↦ λ apart. let rest : cell_at (without table xs) t k ≡ cell_at xs t k = cell_at-without table xs t k ∙ rw apart in rw rest
-        ] refl
+        | true ↦ λ same. let other : (x.0.0 == t.0) ≡ false = grind (arith, nat_tests) in rw other (cell_at-without table xs t k ∙ rw same)
+        | false ↦ λ apart. let rest : cell_at (without table xs) t k ≡ cell_at xs t k = cell_at-without table xs t k ∙ rw apart in rw rest
+      ] refl
     ] refl
 
 cell_at-other_table : (table : TableId) (xs : Cells) (t : TableId) (k : Token) → IsOfTable table xs → (table.0 == t.0) ≡ false → cell_at xs t k ≡ None
@@ -109,13 +107,13 @@ cell_at-of_one table [] t k = elim (table.0 == t.0) as (λ b. (let missing : Opt
 cell_at-of_one table (x ∷ xs) t k =
     elim (x.0.0 == table.0) as (λ b. (x.0.0 == table.0) ≡ b → cell_at (cond b (x ∷ of_one table xs) (of_one table xs)) t k ≡ cond (table.0 == t.0) (cell_at (x ∷ xs) t k) None) [
       | true ↦ λ own. elim (table.0 == t.0) as (λ b. (table.0 == t.0) ≡ b → cond (is_same x.0 x.1.token t k) (Some x.1.cell) (cell_at (of_one table xs) t k) ≡ cond b (cond (is_same x.0 x.1.token t k) (Some x.1.cell) (cell_at xs t k)) None) [
-          | true ↦ λ same. let rest : cell_at (of_one table xs) t k ≡ cell_at xs t k = cell_at-of_one table xs t k ∙ rw same in rw rest
-          | false ↦ λ apart. let other : (x.0.0 == t.0) ≡ false = grind (arith, nat_tests) in rw other (cell_at-of_one table xs t k ∙ rw apart)
-        ] refl
+        | true ↦ λ same. let rest : cell_at (of_one table xs) t k ≡ cell_at xs t k = cell_at-of_one table xs t k ∙ rw same in rw rest
+        | false ↦ λ apart. let other : (x.0.0 == t.0) ≡ false = grind (arith, nat_tests) in rw other (cell_at-of_one table xs t k ∙ rw apart)
+      ] refl
       | false ↦ λ goes. cell_at-of_one table xs t k ∙ elim (table.0 == t.0) as (λ b. (table.0 == t.0) ≡ b → cond b (cell_at xs t k) None ≡ cond b (cond (is_same x.0 x.1.token t k) (Some x.1.cell) (cell_at xs t k)) None) [
-          | true ↦ λ same. let other : (x.0.0 == t.0) ≡ false = grind (arith, nat_tests) in rw other
-          | false ↦ λ _. refl
-        ] refl
+        | true ↦ λ same. let other : (x.0.0 == t.0) ≡ false = grind (arith, nat_tests) in rw other
+        | false ↦ λ _. refl
+      ] refl
     ] refl
 
 -- lists in order that have the same cells of a table

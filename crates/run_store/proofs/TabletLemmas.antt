@@ -1,15 +1,14 @@
 -- The cells of one tablet are those of its run.
-use Rattle.std.proofs.Common.{◌≡◌, ◌≢◌, ℕ, zero, suc, ◌+◌, ◌<◌, ◌≤◌, ◌^◌, ◌/◌, ◌==◌, ◌&&◌, Bool, true, false, cond, List, [], ◌∷◌, ◌++◌, length, get_or, map, filter, refl, ap, sym, subst, ◌∙◌, arith, append-nil}
+use Rattle.std.proofs.Common.{◌≡◌, ◌≢◌, ℕ, zero, suc, ◌+◌, ◌<◌, ◌^◌, ◌==◌, ◌&&◌, true, false, List, [], ◌∷◌, ◌++◌, length, get_or, map, filter, refl, ap, sym, ◌∙◌, arith, append-nil}
 use Rattle.std.proofs.lemmas.Bool.Decides.{nat_tests}
 use Rattle.std.proofs.lemmas.List.{map-append}
 use Rattle.std.proofs.lemmas.List.Elements.{filter-append}
 use Rattle.base_ids.specs.declared.ids.TableId.{TableId}
 use Rattle.token_ring.specs.Ring.{place, tablet_at}
 use Rattle.token_ring.proofs.Places.{place_below, tablet_below}
-use Rattle.token_ring.specs.declared.token.Token.{Token}
 use Rattle.replica_store.specs.declared.store.Stored.{Stored}
 use Rattle.replica_store.specs.Cells.{Cells, IsOrdered}
-use Rattle.run_store.specs.Runs.{Filled, of_table, run_cells, IsOfTablet, IsRun, AreRuns, IsGrouped, tablet_cells}
+use Rattle.run_store.specs.Runs.{Filled, of_table, run_cells, IsOfTablet, AreRuns, IsGrouped, tablet_cells}
 
 -- with one tablet alone, each token has it
 pub one_tablet : (t : TableId) (stored : List Stored) → IsOfTablet 0 0 (of_table t stored)

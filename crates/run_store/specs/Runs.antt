@@ -32,7 +32,8 @@ pub record IsRun (log2 : ℕ) (tablet : ℕ) (cells : Cells) : Type 0 where
 -- one run for each tablet from the first on
 abbrev pub AreRuns : TableId → ℕ → ℕ → List Filled → Type 0
 AreRuns table log2 first [] = Unit {0}
-AreRuns table log2 first (run ∷ runs) = IsRun log2 first (of_table table run.stored) × AreRuns table log2 (first + 1) runs
+AreRuns table log2 first (run ∷ runs) =
+    IsRun log2 first (of_table table run.stored) × AreRuns table log2 (first + 1) runs
 
 -- one run for each of 2^log2 tablets
 pub record IsGrouped (table : TableId) (log2 : ℕ) (runs : List Filled) : Type 0 where
@@ -52,4 +53,5 @@ least_spare (run ∷ runs) = min run.spare (least_spare runs)
 
 -- the stored cells of a table's tablet, of 2^log2, in the order of their tokens
 abbrev pub tablet_cells : Cells → TableId → ℕ → ℕ → List Stored
-tablet_cells cells table log2 tablet = map (λ e. e.1) (filter (λ e. (e.0.0 == table.0) && (tablet_at log2 e.1.token.value == tablet)) cells)
+tablet_cells cells table log2 tablet =
+    map (λ e. e.1) (filter (λ e. (e.0.0 == table.0) && (tablet_at log2 e.1.token.value == tablet)) cells)

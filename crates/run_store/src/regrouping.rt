@@ -38,7 +38,10 @@ pub fn pairs(alloc: Global, runs: &[Run]) -> Result<Vec<Run>, NoMemory>
     for at in 0..runs.len() / 2 {
         let left = &runs[2 * at];
         let right = &runs[2 * at + 1];
-        push(&mut pairs, Run::joined(alloc, left.as_slice(), right.as_slice())?)?;
+        push(
+            &mut pairs,
+            Run::joined(alloc, left.as_slice(), right.as_slice())?,
+        )?;
     }
     Ok(pairs)
 }

@@ -57,8 +57,8 @@ impl RunStore {
         1 << self.log2(table)
     }
 
-    /// The cells of a table's run: those of the tokens whose tablet it is, of as many as there are runs, in the order of
-    /// the tokens.
+    /// The cells of a table's run: those of the tokens whose tablet it is, of as many tablets as there are runs, in the
+    /// order of the tokens.
     pub fn run(&self, table: TableId, i: usize) -> &[Stored]
         requires { i < 2 ^ log2_of self.now.log2s table }
         ensures { result.now ≡ tablet_cells self.now.cells table (log2_of self.now.log2s table) i }
@@ -144,14 +144,7 @@ impl Store for RunStore {
         after: Option<Token>,
         max: usize,
     ) -> Chunk<'_> {
-        tables::chunk(
-            self.tables.as_slice(),
-            &self.rest,
-            table,
-            range,
-            after,
-            max,
-        )
+        tables::chunk(self.tables.as_slice(), &self.rest, table, range, after, max)
     }
 
     fn drop_range(&mut self, table: TableId, range: TokenRange) {

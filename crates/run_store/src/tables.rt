@@ -29,7 +29,12 @@ pub fn index_of(tables: &[TableRuns], table: TableId) -> usize
 }
 
 /// The cell that is stored for a token.
-pub fn get<'a>(tables: &'a [TableRuns], rest: &'a VecStore, table: TableId, token: Token) -> Option<&'a Cell>
+pub fn get<'a>(
+    tables: &'a [TableRuns],
+    rest: &'a VecStore,
+    table: TableId,
+    token: Token,
+) -> Option<&'a Cell>
     requires { IsLaid tables.now rest.now.cells }
     ensures { option_copied result ≡ cell_at (store_cells tables.now rest.now.cells) table token }
 {
@@ -64,7 +69,8 @@ pub fn put(tables: &mut Vec<TableRuns>, rest: &mut VecStore, table: TableId, put
     requires tables_room { 1 ≤ least_room tables.old.items }
     ensures laid { IsLaid tables.new.items rest.new.cells }
     ensures map { (t : TableId) (k : Token) → cell_at (store_cells tables.new.items rest.new.cells) t k
-        ≡ greater_cell (cell_at (store_cells tables.old.items rest.old.cells) t k) (only_at table put.token put.cell t k) }
+        ≡ greater_cell (cell_at (store_cells tables.old.items rest.old.cells) t k)
+        (only_at table put.token put.cell t k) }
     ensures log2s { log2s_of tables.new.items ≡ log2s_of tables.old.items }
     ensures rest_left { rest.old.spare ≤ rest.new.spare + 1 }
     ensures tables_left { least_room tables.old.items ≤ least_room tables.new.items + 1 }

@@ -55,7 +55,12 @@ fn played<S: Store + Drop>(rt: &HostRuntime, mut store: S) -> Result<String, Fai
         let list = gather(rt.alloc(), &store, table, range(i64::MIN + 1, i64::MAX)?, 2)?;
         for stored in list.as_slice() {
             let found = store.get(table, stored.token) == Some(&stored.cell);
-            let line = format!(in rt.alloc(); "{}@{} {} ", stored.token.get(), stored.cell.timestamp, found)?;
+            let line = format!(in rt.alloc();
+                "{}@{} {} ",
+                stored.token.get(),
+                stored.cell.timestamp,
+                found
+            )?;
             text.push_str(line.as_str())?;
         }
     }
@@ -66,7 +71,8 @@ fn played<S: Store + Drop>(rt: &HostRuntime, mut store: S) -> Result<String, Fai
 fn both_stores_keep_the_same_map(rt: HostRuntime) -> Result<(), Fail> {
     let in_runs = played(&rt, RunStore::new(rt.alloc()))?;
     let in_one_list = played(&rt, VecStore::new(rt.alloc()))?;
-    let wanted = "-4611686018427387904@3 true -5@-5 true -3@-3 true 4@8 true 9223372036854775807@1 true \
+    let wanted =
+        "-4611686018427387904@3 true -5@-5 true -3@-3 true 4@8 true 9223372036854775807@1 true \
         -9223372036854775807@2 true ";
     assert_eq!(rt; in_runs.as_str(), wanted);
     assert_eq!(rt; in_one_list.as_str(), wanted);
@@ -111,7 +117,8 @@ fn runs_are_cut_and_joined(rt: HostRuntime) -> Result<(), Fail> {
     assert_eq!(rt; store.run_count(TABLE), 1);
     assert_eq!(rt; store.run(TABLE, 0).len(), 4);
     store.segregate(TABLE)?;
-    store.segregate(TABLE)?;
+    assert_eq!(rt; store.run_count(TABLE), 2);
+    store.regroup(TABLE, 2)?;
     assert_eq!(rt; store.run_count(TABLE), 4);
     assert_eq!(rt; store.run(TABLE, 1).len(), 2);
     assert_eq!(rt; store.run(TABLE, 2).len(), 2);

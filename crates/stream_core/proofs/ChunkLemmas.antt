@@ -17,10 +17,10 @@ pub record IsGathering (all list left : List Stored) (room : ℕ) : Type 0 where
 pub all_taken : (all list left cells : List Stored) (room : ℕ) → IsGathering all list left room → cells ≡ take (length cells) left → length cells ≤ room → (length left ≤ length cells) ⊎ (room ≤ length cells) → list ++ cells ≡ take most_cells all
 all_taken all list left cells room gathering prefix most which =
     let short : take (length cells) left ≡ take room left =
-      elim which [
-        | inl ended ↦ take_all (length cells) left ended ∙ sym (take_all room left (omega arith))
-        | inr full ↦ let same : length cells ≡ room = omega arith in ap (λ n. take n left) same
-      ] in
+    elim which [
+      | inl ended ↦ take_all (length cells) left ended ∙ sym (take_all room left (omega arith))
+      | inr full ↦ let same : length cells ≡ room = omega arith in ap (λ n. take n left) same
+    ] in
     ap (λ (cs : List Stored). list ++ cs) (prefix ∙ short)
     ∙ sym (take-append-add list left room)
     ∙ ap (λ n. take n (list ++ left)) gathering.count

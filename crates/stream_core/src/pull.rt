@@ -72,23 +72,41 @@ impl Pull {
         self.done
     }
 
+    /// An equal pull.
+    pub fn copied(&self) -> Pull
+        ensures { result ≡ self.now }
+    {
+        Pull {
+            session: self.session,
+            table: self.table,
+            range: self.range,
+            by: self.by,
+            from: self.from,
+            after: self.after,
+            done: self.done,
+        }
+    }
+
+    /// The ask for what is behind the last token that the pull has.
+    pub fn ask(&self) -> ChunkAsk
+        ensures { result ≡ next_ask self.now }
+    {
+        ChunkAsk {
+            session: self.session,
+            table: self.table,
+            range: self.range,
+            after: self.after,
+            by: self.by,
+            to: self.from,
+        }
+    }
+
     /// What to ask for next. `None` comes exactly where the pull is done.
     pub fn next_ask(&self) -> Option<ChunkAsk>
         ensures none { IsNone result ↔ IsTrue self.now.done }
         ensures ask { IfSome result (λ ask. ask ≡ next_ask self.now) }
     {
-        if self.done {
-            None
-        } else {
-            Some(ChunkAsk {
-                session: self.session,
-                table: self.table,
-                range: self.range,
-                after: self.after,
-                by: self.by,
-                to: self.from,
-            })
-        }
+        if self.done { None } else { Some(self.ask()) }
     }
 
     /// What would become of a chunk: `Foreign` exactly where its session or `after` is not the pull's or the pull is done,

@@ -13,11 +13,7 @@ const MOST_CELLS: usize = 64;
 
 /// The chunk that is asked for: the first 64 cells of the range above `after`, and whether there are more. The store lends
 /// them by as many chunks of its own as it takes.
-pub fn serve_chunk<S: Store>(
-    alloc: Global,
-    store: &S,
-    ask: &ChunkAsk,
-) -> Result<ChunkMsg, NoMemory>
+pub fn serve_chunk<S: Store>(alloc: Global, store: &S, ask: &ChunkAsk) -> Result<ChunkMsg, NoMemory>
     ensures { IfOk result (λ chunk. chunk ≡ served_chunk (S.cells store.now) ask.now) }
 {
     let (cells, more) = first_cells(alloc, store, ask)?;

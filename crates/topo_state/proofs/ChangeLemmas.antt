@@ -10,7 +10,6 @@ use Rattle.topo_state.specs.declared.data.Table.{Table}
 use Rattle.topo_state.specs.declared.command.Command.{Command}
 use Rattle.topo_state.specs.State.{empty_table}
 use Rattle.topo_state.specs.Tables.{table_in, has_id, are_distinct}
-use Rattle.topo_state.specs.After.{tables_after}
 use Rattle.topo_state.specs.Changes.{IsChange}
 use Rattle.topo_state.proofs.TableLemmas.{table_in-id}
 use Rattle.topo_state.proofs.DistinctLemmas.{behind_none, one_written}

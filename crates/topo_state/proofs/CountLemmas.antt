@@ -1,12 +1,11 @@
 -- How many tables and tablets there are after a command.
-use Rattle.std.proofs.Common.{◌≡◌, ◌+◌, ◌*◌, ◌<◌, ◌≤◌, ◌^◌, ℕ, List, [], ◌∷◌, ◌++◌, map, length, length-append, replicate, set, get_or, cond, eqb, nat_lt, Bool, true, false, ◌&&◌, ◌||◌, not, Option, Some, None, refl, ap, sym, subst, ◌∙◌, arith}
-use Rattle.std.specs.Prelude.{is_some}
-use Rattle.std.specs.List.{list_any, flat_map, sum_by}
+use Rattle.std.proofs.Common.{◌≡◌, ◌+◌, ◌≤◌, ◌^◌, ℕ, List, [], ◌∷◌, ◌++◌, map, length, length-append, cond, eqb, nat_lt, Bool, true, false, not, Option, Some, None, refl, ap, sym, subst, ◌∙◌, arith}
+use Rattle.std.specs.List.{list_any, flat_map}
 use Rattle.std.proofs.lemmas.Bool.{eqb-true, cond_both}
 use Rattle.std.proofs.lemmas.List.{length-map}
 use Rattle.std.proofs.lemmas.List.Sums.{sum_by-cons}
 use Rattle.std.proofs.Math.ListN.{length-replicate, length-set}
-use Rattle.tablet_map.proofs.Joined.{and_left, and_right, or_left, or_right, not_true}
+use Rattle.tablet_map.proofs.Joined.{and_left, and_right, not_true}
 use Rattle.base_ids.specs.declared.ids.HostId.{HostId}
 use Rattle.base_ids.specs.declared.ids.TableId.{TableId}
 use Rattle.tablet_map.specs.declared.tablet.Tablet.{Tablet}
@@ -23,7 +22,6 @@ use Rattle.topo_state.specs.Tables.{table_in, has_id, are_distinct, tablet_count
 use Rattle.topo_state.specs.After.{after, after_finalize, table_after, tables_after, members_after, resized, resized_by, created_tables, advanced}
 use Rattle.topo_state.specs.Rules.{rule, growth, growth_by, IsFit}
 use Rattle.topo_state.specs.Sound.{IsTable, IsTopology}
-use Rattle.topo_state.proofs.TableLemmas.{none_of}
 use Rattle.topo_state.proofs.Passed.{create_passes, finalize_passes, named}
 use Rattle.topo_state.proofs.DistinctLemmas.{untouched, behind_none, distinct_after}
 use Rattle.topo_state.proofs.SoundLemmas.{sound_after, members_then}

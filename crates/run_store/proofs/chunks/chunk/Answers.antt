@@ -1,4 +1,4 @@
-use Rattle.std.proofs.Common.{◌≡◌, ◌+◌, ◌-◌, take, drop, length, refl, ap, sym, ◌∙◌, arith}
+use Rattle.std.proofs.Common.{◌≡◌, ◌+◌, ◌-◌, drop, length, ap, arith}
 use Rattle.token_ring.specs.Ring.{place}
 use Rattle.replica_store.specs.Cells.{range_cells}
 use Rattle.run_store.specs.Runs.{run_cells}

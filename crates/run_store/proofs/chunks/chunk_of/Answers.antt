@@ -1,4 +1,4 @@
-use Rattle.std.proofs.Common.{List, ◌≡◌, ◌+◌, ◌++◌, length, drop, min, ap, sym, ◌∙◌, arith, length-take}
+use Rattle.std.proofs.Common.{List, ◌+◌, ◌++◌, length, drop, ap, sym, ◌∙◌, arith, length-take}
 use Rattle.replica_store.specs.declared.store.Stored.{Stored}
 use Rattle.replica_store.specs.Cells.{range_cells}
 use Rattle.run_store.specs.Runs.{of_table, run_cells}

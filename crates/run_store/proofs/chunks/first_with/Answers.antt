@@ -12,5 +12,5 @@ range_of-requires c = rw c.as_slice.ensures (ordered_at c.args.table c.args.runs
 pub loop-at-preserved : goal.loop-at-preserved
 loop-at-preserved c =
     let empty : length (range_cells (of_table c.args.table c.index-runs-at.result.stored) c.args.table c.args.range c.args.after) ≡ 0 =
-        ap length (sym (c.range_of.ensures ∙ ap (λ (xs : List Stored). range_cells (of_table c.args.table xs) c.args.table c.args.range c.args.after) c.as_slice.ensures)) ∙ grind (arith, nat_tests) in
+    ap length (sym (c.range_of.ensures ∙ ap (λ (xs : List Stored). range_cells (of_table c.args.table xs) c.args.table c.args.range c.args.after) c.as_slice.ensures)) ∙ grind (arith, nat_tests) in
     wanted_more c.args.table c.args.range c.args.after c.args.runs.now c.loop-at.at c.index-runs-at.result (omega arith) c.index-runs-at.is c.loop-at.invariant empty

@@ -1,6 +1,5 @@
-use Rattle.std.proofs.Common.{◌≡◌, ◌+◌, ◌*◌, ◌++◌, [], ◌∷◌, List, length, sym, ap, ◌∙◌, arith, length-append}
-use Rattle.run_store.specs.Runs.{Filled, of_table, IsRun, AreRuns, run_cells}
-use Rattle.replica_store.specs.declared.store.Stored.{Stored}
+use Rattle.std.proofs.Common.{◌≡◌, ◌+◌, ◌++◌, [], ◌∷◌, List, ap, ◌∙◌, arith, length-append}
+use Rattle.run_store.specs.Runs.{Filled}
 use Rattle.run_store.proofs.GroupLemmas.{run_read}
 use Rattle.run_store.proofs.RegroupLemmas.{halves_more, halves_runs}
 use Rattle.run_store.proofs.regrouping.halves.Goals as goal

@@ -1,4 +1,4 @@
-use Rattle.std.proofs.Common.{◌≡◌, ◌+◌, ◌*◌, ◌++◌, [], ◌∷◌, length, sym, ap, ◌∙◌, arith, length-append}
+use Rattle.std.proofs.Common.{◌≡◌, ◌++◌, [], ◌∷◌, arith, length-append}
 use Rattle.run_store.proofs.RegroupLemmas.{pairs_more, pairs_runs}
 use Rattle.run_store.proofs.regrouping.pairs.Goals as goal
 

@@ -1,4 +1,4 @@
-use Rattle.std.proofs.Common.{refl, sym, ◌∙◌, ◌<◌, ◌^◌, length, arith}
+use Rattle.std.proofs.Common.{refl, sym, ◌∙◌, ◌<◌, ◌^◌, arith}
 use Rattle.run_store.specs.Runs.{of_table}
 use Rattle.run_store.proofs.GroupLemmas.{IsGrouped-set, IsRun-outside, least_spare-set, run_read}
 use Rattle.run_store.proofs.LoopLemmas.{IsClean, all_low, all_clean, each_clean, each_more, clean_now, outside-set}

@@ -1,5 +1,4 @@
 use Rattle.std.proofs.Common.{◌∙◌}
-use Rattle.run_store.specs.Runs.{of_table}
 use Rattle.run_store.proofs.GroupLemmas.{run_read, find_read}
 use Rattle.run_store.proofs.runs.find.Goals as goal
 

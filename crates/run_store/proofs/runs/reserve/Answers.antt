@@ -1,4 +1,4 @@
-use Rattle.std.proofs.Common.{◌≡◌, ◌^◌, ◌<◌, ◌≤◌, length, ◌∙◌, arith}
+use Rattle.std.proofs.Common.{◌^◌, ◌<◌, ◌≤◌, length, ◌∙◌, arith}
 use Rattle.run_store.specs.Runs.{Filled}
 use Rattle.run_store.proofs.GroupLemmas.{least_spare-set}
 use Rattle.run_store.proofs.LoopLemmas.{stored-set, least_spare-all, length-same, each_more}

@@ -1,4 +1,4 @@
-use Rattle.std.proofs.Common.{◌≡◌, ◌==◌, ◌≤◌, ◌++◌, [], ◌∷◌, length, ap, ◌∙◌, arith, length-append}
+use Rattle.std.proofs.Common.{◌==◌, ◌≤◌, [], ◌∷◌, length, ap, ◌∙◌, arith, length-append}
 use Rattle.base_ids.specs.declared.ids.TableId.{TableId}
 use Rattle.replica_store.specs.declared.store.Stored.{Stored}
 use Rattle.replica_store.proofs.RangeLemmas.{IsOrdered-filter}

@@ -1,4 +1,4 @@
-use Rattle.std.proofs.Common.{◌≡◌, ◌<◌, ◌≤◌, set, length, ap, ◌∙◌, arith}
+use Rattle.std.proofs.Common.{◌<◌, ◌≤◌, set, length, ap, ◌∙◌, arith}
 use Rattle.base_ids.specs.declared.ids.TableId.{TableId}
 use Rattle.replica_store.specs.Cells.{Cells, cell_at, outside}
 use Rattle.replica_store.proofs.MapLemmas.{cell_at-outside}

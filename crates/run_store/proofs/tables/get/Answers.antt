@@ -1,4 +1,4 @@
-use Rattle.std.proofs.Common.{◌≡◌, ap, sym, ◌∙◌, arith}
+use Rattle.std.proofs.Common.{ap, sym, ◌∙◌, arith}
 use Rattle.base_ids.specs.declared.ids.TableId.{TableId}
 use Rattle.replica_store.specs.Cells.{Cells, cell_at}
 use Rattle.run_store.proofs.StoreLemmas.{cell_at-store_cells, found_table, found_cells, missing_cells}

@@ -1,8 +1,7 @@
-use Rattle.std.proofs.Common.{◌≡◌, ◌^◌, ◌<◌, ◌≤◌, length, ◌∙◌, arith}
+use Rattle.std.proofs.Common.{◌^◌, ◌<◌, ◌≤◌, length, ◌∙◌, arith}
 use Rattle.std.proofs.Math.ListN.{length-set}
 use Rattle.std.proofs.lemmas.List.Elements.{AllWithin-more_set}
-use Rattle.replica_store.specs.Cells.{Cells}
-use Rattle.run_store.specs.Tables.{Grouped, IsLaid}
+use Rattle.run_store.specs.Tables.{Grouped}
 use Rattle.run_store.proofs.StoreLemmas.{AreTables-set, found_is, same_is, least_room-set, log2s_of-set}
 use Rattle.run_store.proofs.AdoptLemmas.{store_cells-set, least_room-all}
 use Rattle.run_store.proofs.tables.reserve.Goals as goal

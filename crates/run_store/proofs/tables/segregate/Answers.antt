@@ -1,5 +1,4 @@
-use Rattle.std.proofs.Common.{◌≡◌, ◌+◌, ap, sym, ◌∙◌, arith}
-use Rattle.run_store.specs.Tables.{log2_of, log2s_of}
+use Rattle.std.proofs.Common.{◌+◌, ap, ◌∙◌}
 use Rattle.run_store.proofs.StoreLemmas.{found_table, found_is, same_is, AreTables-set}
 use Rattle.run_store.proofs.AdoptLemmas.{found_log2, log2_here, log2_elsewhere, store_cells-set, OnOk-map}
 use Rattle.run_store.proofs.tables.segregate.Goals as goal

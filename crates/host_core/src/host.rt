@@ -1,0 +1,306 @@
+//! A host over a store.
+ghost use Rattle.std.specs.Prelude.{◌≡◌, ◌≤◌, [], IfOk, OnOk, OnErr, MatchResult, None, Some};
+ghost use Rattle.base_ids.specs.declared.ids.TableId.{TableId};
+ghost use Rattle.host_core.specs.Host.{first_host, is_done, is_so, pull_rule, host_rule, next_state, next_pull, host_after, host_out, restarted, CanTake};
+ghost use Rattle.host_core.specs.Pulls.{pull_in, first_pull};
+ghost use Rattle.host_core.specs.Groups.{grouping_of, runs_with, AreLeft};
+
+use crate::data::{HostInput, HostOut, Made};
+use crate::pulls::PullTable;
+use crate::{effects, grouping, making};
+use barrier_core::What;
+use base_ids::{EventRule, HostId, NoMemory, Session, Version};
+use replica_core::serve_write;
+use replica_store::Store;
+use std::alloc::Global;
+use std::marker::Model;
+use stream_core::Pull;
+use topo_state::{TopoState, has_split};
+
+/// An input whose memory was taken. It is seen as that input.
+#[derive(Drop)]
+pub struct Prepared {
+    input: HostInput,
+}
+
+impl Model for Prepared {
+    ghost use Rattle.host_core.specs.declared.data.HostInput.{HostInput};
+
+    ghost Value = { HostInput };
+
+    ghost view = { λ p. p.input };
+}
+
+/// A host: the commands of the log that it has applied, its floor, the cells that it holds, and its pulls.
+///
+/// Contracts see it as plain data (`core`); beside that what was made for its next input, the room for cells and for pulls,
+/// and the run counts of its store.
+#[derive(Drop)]
+pub struct HostCore<S: Store> {
+    alloc: Global,
+    host: HostId,
+    applied: u64,
+    state: TopoState,
+    floor: Version,
+    store: S,
+    pulls: PullTable,
+    made: Option<Made>,
+}
+
+impl<S: Store> Model for HostCore<S> {
+    ghost use Rattle.host_core.specs.Ready.{Holding};
+    ghost use Rattle.replica_store.specs.Cells.{IsOrdered};
+
+    ghost Value = { Holding S };
+
+    ghost view = { λ h. record { core = record { host = h.host; applied = h.applied; state = h.state; floor = h.floor; cells = S.cells h.store; pulls = h.pulls.list }; made = h.made; room = S.spare h.store; pull_room = h.pulls.spare; store = h.store } };
+
+    ghost invariant = { λ h. IsOrdered (S.cells h.store) };
+}
+
+impl<S: Store> HostCore<S> {
+    ghost use Rattle.host_core.specs.Ready.{HasMade, made_of, needed_cells, needed_pulls};
+
+    /// A host that has applied nothing and holds nothing, over the opening's state and an empty store.
+    pub fn new(alloc: Global, host: HostId, opening: TopoState, store: S) -> HostCore<S>
+        requires { S.cells store ≡ [] }
+        ensures core { result.core ≡ first_host host opening }
+        ensures store { result.store ≡ store }
+    {
+        HostCore {
+            alloc,
+            host,
+            applied: 0,
+            state: opening,
+            floor: Version(1),
+            store,
+            pulls: PullTable::new(alloc),
+            made: None,
+        }
+    }
+
+    /// How many commands of the log it has applied.
+    pub fn applied(&self) -> u64
+        ensures { result ≡ self.now.core.applied }
+    {
+        self.applied
+    }
+
+    /// Lends the state that they made.
+    pub fn state(&self) -> &TopoState
+        ensures { result.now ≡ self.now.core.state }
+    {
+        &self.state
+    }
+
+    /// The version below which its lanes begin nothing.
+    pub fn floor(&self) -> Version
+        ensures { result ≡ self.now.core.floor }
+    {
+        self.floor
+    }
+
+    /// Whether its pull of the session is done.
+    pub fn has_done(&self, session: Session) -> bool
+        ensures { result ≡ is_done (pull_in self.now.core.pulls session) }
+    {
+        match self.pulls.get(session) {
+            Some(pull) => pull.is_done(),
+            None => false,
+        }
+    }
+
+    /// Lends its store.
+    pub fn store(&self) -> &S
+        ensures cells { S.cells result.now ≡ self.now.core.cells }
+        ensures store { result.now ≡ self.now.store }
+    {
+        &self.store
+    }
+
+    /// Whether the host can tell it.
+    fn is_so(&self, what: What) -> bool
+        ensures { result ≡ is_so self.now.core what }
+    {
+        match what {
+            What::Drain(version) => version.0 <= self.floor.0,
+            What::Fence(version) => version.0 <= self.state.fence().0,
+            What::Done(session) => self.has_done(session),
+            What::Clean(_) => false,
+            What::Ready(number) => has_split(&self.state, number),
+        }
+    }
+
+    /// Whether there is nothing to pull for the session, or it was pulled.
+    fn check_pull(&self, session: Session) -> Result<(), EventRule>
+        ensures { MatchResult result
+            (λ _. pull_rule (first_pull self.now.core.state self.now.core.host session) (pull_in self.now.core.pulls session) ≡ None)
+            (λ broken. pull_rule (first_pull self.now.core.state self.now.core.host session) (pull_in self.now.core.pulls session) ≡ Some broken) }
+    {
+        if making::first_pull(&self.state, self.host, session).is_none() {
+            Err(EventRule::NoStream)
+        } else if self.has_done(session) {
+            Err(EventRule::PullOver)
+        } else {
+            Ok(())
+        }
+    }
+
+    /// The first rule of the input that the host's own state decides: `VersionAhead`, `NotTrue`, `NoStream`, `PullOver`.
+    pub fn check(&self, input: &HostInput) -> Result<(), EventRule>
+        ensures { MatchResult result (λ _. host_rule self.now.core input.now ≡ None) (λ broken. host_rule self.now.core input.now ≡ Some broken) }
+    {
+        match input {
+            HostInput::Quiet(version) if self.state.version().0 < version.0 => {
+                Err(EventRule::VersionAhead)
+            }
+            HostInput::Answer(ask) if !self.is_so(ask.what) => Err(EventRule::NotTrue),
+            HostInput::Pull(session) => self.check_pull(*session),
+            _ => Ok(()),
+        }
+    }
+
+    /// Makes room for what the input puts and begins.
+    fn make_room(&mut self, input: &HostInput) -> Result<(), NoMemory>
+        ensures core { self.new.core ≡ self.old.core }
+        ensures cells { OnOk result (needed_cells input.now ≤ self.new.room) }
+        ensures pulls { OnOk result (needed_pulls input.now ≤ self.new.pull_room) }
+        ensures runs { (t : TableId) → S.runs self.new.store t ≡ S.runs self.old.store t }
+    {
+        match input {
+            HostInput::Write(_) => self.store.reserve(1),
+            HostInput::TakeChunk(chunk) => self.store.reserve(chunk.cells.as_slice().len()),
+            HostInput::Pull(_) => self.pulls.reserve(),
+            _ => Ok(()),
+        }
+    }
+
+    /// The state after the command, where one is applied.
+    fn make_next(&self, input: &HostInput) -> Result<Option<TopoState>, NoMemory>
+        requires { CanTake self.now.core input.now }
+        ensures { IfOk result (λ next. next ≡ next_state self.now.core input.now) }
+    {
+        match input {
+            HostInput::Apply(command) => {
+                let next = making::next_state(
+                    self.alloc,
+                    &self.state,
+                    self.applied,
+                    command.get(),
+                )?;
+                Ok(Some(next))
+            }
+            _ => Ok(None),
+        }
+    }
+
+    /// The pull that begins, where one does.
+    fn make_pull(&self, input: &HostInput) -> Option<Pull>
+        ensures { result ≡ next_pull self.now.core input.now }
+    {
+        match input {
+            HostInput::Pull(session) => {
+                making::begun_pull(&self.state, self.host, &self.pulls, *session)
+            }
+            _ => None,
+        }
+    }
+
+    /// Makes what the input takes memory for.
+    fn make(&self, input: &HostInput) -> Result<Made, NoMemory>
+        requires { CanTake self.now.core input.now }
+        ensures { IfOk result (λ made. made ≡ made_of self.now.core input.now) }
+    {
+        let out = making::out_of(
+            self.alloc,
+            self.host,
+            &self.state,
+            &self.store,
+            &self.pulls,
+            input,
+        )?;
+        let next = self.make_next(input)?;
+        let begun = self.make_pull(input);
+        Ok(Made { out, next, begun })
+    }
+
+    /// Lays the cells of a table into runs, where the input asks for it.
+    fn regroup(&mut self, next: &Option<TopoState>, input: &HostInput) -> Result<(), NoMemory>
+        requires { next.now ≡ next_state self.old.core input.now }
+        ensures core { self.new.core ≡ self.old.core }
+        ensures ok { OnOk result ((t : TableId) → S.runs self.new.store t ≡ runs_with (grouping_of self.old.core input.now) (S.runs self.old.store) t) }
+        ensures err { OnErr result (AreLeft (grouping_of self.old.core input.now) (S.runs self.old.store) (S.runs self.new.store)) }
+        ensures pull_room { self.new.pull_room ≡ self.old.pull_room }
+        ensures room { needed_cells input.now ≤ self.old.room → needed_cells input.now ≤ self.new.room }
+    {
+        let grouping = grouping::grouping_of(&self.state, next, input);
+        grouping::regroup(&mut self.store, grouping)
+    }
+
+    /// Takes all memory of an input. Of `core` nothing changes; the run count of the table that the input regroups may.
+    pub fn prepare(&mut self, input: HostInput) -> Result<Prepared, NoMemory>
+        requires { CanTake self.old.core input }
+        ensures core { self.new.core ≡ self.old.core }
+        ensures input { IfOk result (λ prepared. prepared ≡ input) }
+        ensures ready { IfOk result (λ prepared. HasMade self.new prepared) }
+        ensures runs { OnOk result ((t : TableId) → S.runs self.new.store t ≡ runs_with (grouping_of self.old.core input) (S.runs self.old.store) t) }
+        ensures err { OnErr result (AreLeft (grouping_of self.old.core input) (S.runs self.old.store) (S.runs self.new.store)) }
+    {
+        let made = self.make(&input)?;
+        self.make_room(&input)?;
+        self.regroup(&made.next, &input)?;
+        self.made = Some(made);
+        Ok(Prepared { input })
+    }
+
+    /// Plays what was prepared. Takes no memory.
+    pub fn settle(&mut self, prepared: Prepared) -> HostOut
+        requires { HasMade self.old prepared }
+        ensures core { self.new.core ≡ host_after self.old.core prepared }
+        ensures out { result ≡ host_out self.old.core prepared }
+        ensures runs { (t : TableId) → S.runs self.new.store t ≡ S.runs self.old.store t }
+    {
+        let Prepared { input } = prepared;
+        let Some(Made { out, next, begun }) = self.made.take() else {
+            unreachable!()
+        };
+        match &input {
+            HostInput::Apply(_) => {
+                match next {
+                    Some(next) => self.state = next,
+                    None => unreachable!(),
+                }
+                self.applied += 1;
+            }
+            HostInput::Quiet(version) => {
+                self.floor = effects::greater_version(self.floor, *version);
+            }
+            HostInput::Write(ask) => {
+                let _answer = serve_write(&mut self.store, self.state.fence(), ask);
+            }
+            HostInput::TakeChunk(chunk) => {
+                effects::take_chunk(&mut self.store, &mut self.pulls, chunk.get());
+            }
+            HostInput::Clean(ask) => {
+                effects::clean(
+                    &mut self.store,
+                    &mut self.pulls,
+                    self.host,
+                    &self.state,
+                    ask.what,
+                );
+            }
+            HostInput::Pull(session) => effects::begin_pull(&mut self.pulls, *session, begun),
+            HostInput::Read(_) | HostInput::SendChunk(_) | HostInput::Answer(_) => {}
+        }
+        out
+    }
+
+    /// Loses the pulls, and keeps all else.
+    pub fn restart(&mut self)
+        ensures core { self.new.core ≡ restarted self.old.core }
+        ensures runs { (t : TableId) → S.runs self.new.store t ≡ S.runs self.old.store t }
+    {
+        self.pulls.clear();
+    }
+}

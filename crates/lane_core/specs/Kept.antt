@@ -1,0 +1,59 @@
+-- A lane with what it has prepared, and what is known of its live requests.
+use Rattle.std.specs.Prelude.{◌≡◌, ◌≤◌, ℕ, List, Option, Some, IfSome}
+use Rattle.std.specs.List.{All}
+use Rattle.base_ids.specs.declared.ids.LaneId.{LaneId}
+use Rattle.base_ids.specs.declared.ids.OpId.{OpId}
+use Rattle.quorum_ops.specs.Pending.{IsUndecided}
+use Rattle.request_table.specs.declared.Live.{Live}
+use Rattle.topo_state.specs.State.{Topology}
+use Rattle.lane_core.specs.declared.work.Work.{Work}
+use Rattle.lane_core.specs.declared.data.LaneInput.{LaneInput}
+use Rattle.lane_core.specs.declared.data.LaneInput.TheVariants.{Write, Read, Take, Timeout}
+use Rattle.lane_core.specs.declared.lane.Made.{Made}
+use Rattle.lane_core.specs.Work.{pending_in}
+use Rattle.lane_core.specs.Lane.{LaneView, next_op, lane_work, lane_out, IsFor}
+
+-- a request of this name waits for answers, and is not decided
+pub record IsWaiting (lane : LaneId) (op : OpId) (work : Work) : Type 0 where
+  pub lane_is : (pending_in work).lane ≡ lane
+  pub op_is : (pending_in work).op ≡ op
+  pub undecided : IsUndecided (pending_in work)
+
+-- a live request has the number of a begin, and waits under it
+pub record IsKept (lane : LaneId) (begun : ℕ) (request : OpId × Live Topology Work) : Type 0 where
+  pub begun_is : request.0.0 ≤ begun
+  pub waits : IsWaiting lane request.0 request.1.work
+
+abbrev pub AreKept : LaneId → ℕ → List (OpId × Live Topology Work) → Type 0
+AreKept lane begun live = All (IsKept lane begun) live
+
+-- the lane, what was made for an input, and the number of the request that has room
+pub record LaneHolding : Type 0 where
+  pub core : LaneView
+  pub made : Option Made
+  pub room : Option OpId
+
+-- what is made for an input: what is given out, and the work that its request is left with
+abbrev pub lane_made : LaneView → LaneInput → Made
+lane_made lane input = record { out = lane_out lane input; work = lane_work lane input }
+
+-- a request that begins has room
+abbrev pub HasRoom : LaneView → Option OpId → LaneInput → Type 0
+HasRoom lane room (Write table token cell snapshot) = room ≡ Some (next_op lane)
+HasRoom lane room (Read table token snapshot) = room ≡ Some (next_op lane)
+HasRoom lane room (Take answer) = Unit {0}
+HasRoom lane room (Timeout op) = Unit {0}
+
+-- the number of the request that an input is about
+abbrev pub op_of : LaneView → LaneInput → OpId
+op_of lane (Write table token cell snapshot) = next_op lane
+op_of lane (Read table token snapshot) = next_op lane
+op_of lane (Take answer) = answer.op
+op_of lane (Timeout op) = op
+
+-- all that the input needs is there
+pub record HasMade (lane : LaneHolding) (input : LaneInput) : Type 0 where
+  pub for_it : IsFor lane.core input
+  pub made : lane.made ≡ Some (lane_made lane.core input)
+  pub room : HasRoom lane.core lane.room input
+  pub waits : IfSome (lane_work lane.core input) (IsWaiting lane.core.lane (op_of lane.core input))
