@@ -140,7 +140,7 @@ judged length None = Accepted (length + 1)
 judged length (Some rule) = Illegal rule
 
 -- what becomes of a proposal, by the look, the length of the log, and the rule that the command breaks in the log's
--- state: it is accepted where nothing came since the look and it breaks none
+-- state: it is accepted where the log has not grown since the look and it breaks none
 abbrev pub outcome_of : ℕ → ℕ → Option Rule → Appended Rule
 outcome_of look length broken = if look == length then judged length broken else Conflict (record { 0 = length })
 

@@ -54,7 +54,7 @@ way_by kind None = Ends NoTable
 way_by kind (Some tablet) =
     Goes (record { targets = targets_of kind tablet; need = needed kind (length tablet.replicas) (stage_in tablet) })
 
--- in a state: the lane's host must be a member, and the table there
+-- in a state: the lane's host must be a member, and the table there; no enabled begin is at a version without a state
 abbrev pub way_in : Option Topology → HostId → Operation → Way
 way_in None host operation = Ends NotMember
 way_in (Some state) host operation =

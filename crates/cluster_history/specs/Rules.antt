@@ -99,7 +99,7 @@ abbrev pub is_fence : Command → Bool
 is_fence (SetFence version) = true
 is_fence command = false
 
--- the version that the coordinator has seen may still be in use somewhere; a fence needs no evidence
+-- a version below the one that the coordinator has seen may still be in use somewhere; a fence needs no evidence
 abbrev pub lacks_evidence : Topology → List Told → Command → Bool
 lacks_evidence state facts command =
     not (is_fence command || is_complete facts state.version state.members state.before)

@@ -1,5 +1,6 @@
--- An enabled event stays enabled, with the same outputs, as events of other actors come. The cluster runs on this: an
--- actor chooses its next event by what it has seen, and the event takes its place in the history later.
+-- An enabled event stays enabled, with the same outputs, as events of other actors come, but for a begin and a quiet
+-- event that hinder one another, and for what becomes of a proposal. The cluster runs on this: an actor chooses its next
+-- event by what it has seen, and the event takes its place in the history later.
 use Rattle.std.specs.Prelude.{Bool, None, false, nat_lt, true, ◌&&◌, ◌∷◌, ◌≡◌}
 use Rattle.base_ids.specs.Names.{same_host}
 use Rattle.cluster_history.specs.History.{History, actor_of, is_by}

@@ -182,7 +182,7 @@ host_out view input = out_of view.host view.state view.cells view.pulls input
 
 -- ---- what the host can take
 
--- the state judges the command well, and no count passes its type
+-- the state judges the command well, and no count passes its type; this is asked of a fence too, which raises no version
 pub record CanApply (view : HostView) (command : Command) : Type 0 where
   pub fit : IsFit command
   pub judged : rule view.state command ≡ None

@@ -78,7 +78,7 @@ pub record HasSoundStates (first : Topology) (log : List Command) : Type 0 where
       (id : TableId) (token : Token) (tablet : Tablet) → view state id token.value ≡ Some tablet →
       IsSoundView state.members tablet
 
--- A session that a key shows is its start; one that a key does not show since its start, it shows never again.
+-- A session that a key shows is its start; once a key has ceased to show a session it never shows it again.
 pub record HasSessions (first : Topology) (log : List Command) : Type 0 where
   pub starts : (count : ℕ) → count ≤ length log → (session : ℕ) (id : TableId) (token : Token) (stage : Stage) →
       stage_at first log count session id token.value ≡ Some stage → IsItsStart first log count session
@@ -143,13 +143,14 @@ pub record HasStages (first : Topology) (log : List Command) : Type 0 where
       stage_with first log earlier session id token.value ≡ Some was →
       stage_with first log later session id token.value ≡ Some stage → IsNotLater was stage
 
--- What streams wrote to both at an earlier version, and began to at one before that at which it began to stream.
+-- a session reached a stage at an earlier version than this one
 pub record IsReachedBefore (first : Topology) (log : List Command) (session : ℕ) (id : TableId) (token : Token)
     (stage : Stage) (version : ℕ) : Type 0 where
   pub at : ℕ
   pub earlier : at < version
   pub reached : IsReachedAt first log session id token.value stage at
 
+-- The version at which a session began to stream is above that at which it began to write to both.
 abbrev pub StreamsAfterBoth : Topology → List Command → Type 0
 StreamsAfterBoth first log =
     (session version : ℕ) (id : TableId) (token : Token) →

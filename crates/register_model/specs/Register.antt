@@ -81,12 +81,21 @@ pub record EndsOpen (events : List ClientEvent) : Type 0 where
 -- A read returns none, or a cell that a write of its key began with earlier.
 abbrev pub ReadsWritten : List ClientEvent → Type 0
 ReadsWritten events =
-    (begin place : ℕ) (request : Request) (key : Key) (cell : Cell) → Stands events begin (ReadBegun request key) → Stands events place (ReadOk request (Some cell)) → WrittenBefore events place key cell
+    (begin place : ℕ) (request : Request) (key : Key) (cell : Cell)
+    → Stands events begin (ReadBegun request key)
+    → Stands events place (ReadOk request (Some cell))
+    → WrittenBefore events place key cell
 
 -- A read returns no cell that is below the one of a write of its key that was acknowledged before the read began.
 abbrev pub ReadsNotBelow : List ClientEvent → Type 0
 ReadsNotBelow events =
-    (wrote acked begin place : ℕ) (writer reader : Request) (key : Key) (written : Cell) (cell : Option Cell) → Stands events wrote (WriteBegun writer key written) → Stands events acked (WriteAcked writer) → acked < begin → Stands events begin (ReadBegun reader key) → Stands events place (ReadOk reader cell) → IsNotBelow cell (Some written)
+    (wrote acked begin place : ℕ) (writer reader : Request) (key : Key) (written : Cell) (cell : Option Cell)
+    → Stands events wrote (WriteBegun writer key written)
+    → Stands events acked (WriteAcked writer)
+    → acked < begin
+    → Stands events begin (ReadBegun reader key)
+    → Stands events place (ReadOk reader cell)
+    → IsNotBelow cell (Some written)
 
 -- The list is a run of the register machine.
 pub record IsRegisterRun (events : List ClientEvent) : Type 0 where

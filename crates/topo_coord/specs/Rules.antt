@@ -26,7 +26,7 @@ abbrev pub is_fence : Command → Bool
 is_fence (SetFence version) = true
 is_fence command = false
 
--- requests of the version that was seen, or of an earlier one, may still be under way; a fence needs no evidence
+-- requests of a version below the one that was seen may still be under way; a fence needs no evidence
 abbrev pub lacks_evidence : Topology → List Told → Command → Bool
 lacks_evidence state facts command =
     not (is_fence command || is_complete facts state.version state.members state.before)
