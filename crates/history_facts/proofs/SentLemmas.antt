@@ -6,6 +6,7 @@ use Rattle.std.specs.Prelude.{Bool, List, None, Option, Some, [], false, if◌th
 use Rattle.barrier_core.specs.declared.data.Ask.{Ask}
 use Rattle.barrier_core.specs.declared.data.What.{What}
 use Rattle.barrier_core.specs.declared.data.What.TheVariants.{Clean as CleanOf}
+use Rattle.base_ids.specs.Replicas.{has_replica, same_replica}
 use Rattle.base_ids.specs.declared.ids.Actor.TheVariants.{Host as ByHost}
 use Rattle.base_ids.specs.declared.ids.HostId.{HostId}
 use Rattle.base_ids.specs.declared.ids.LaneId.{LaneId}
@@ -20,7 +21,6 @@ use Rattle.cluster_history.specs.History.{History, message_at, output_at}
 use Rattle.cluster_history.specs.Legal.{broken_rule, outputs_of}
 use Rattle.cluster_history.specs.Messages.{addressee, is_clean_ask, is_for, is_question, is_request, kind_of, read_key}
 use Rattle.cluster_history.specs.Moves.{first_pull}
-use Rattle.topo_state.specs.Moves.{is_cleaned_by}
 use Rattle.cluster_history.specs.Outputs.{answer_outputs, ask_of, begin_outputs, chunk_outputs, clean_outputs, cleaned_outputs, decided_by, fact_for, is_last, outcome_of, pull_outputs, reply_list, said_to, sent_ask, serve_outputs, take_outputs, timeout_outputs}
 use Rattle.cluster_history.specs.Requests.{Request, Route, Way, answers_of, live_request, next_op, way_of}
 use Rattle.cluster_history.specs.Requests.Way.{Ends, Goes}
@@ -41,11 +41,13 @@ use Rattle.quorum_ops.specs.declared.data.Said.TheVariants.{Found, Written}
 use Rattle.quorum_ops.specs.declared.data.WriteAsk.{WriteAsk}
 use Rattle.stream_core.specs.Pulls.{Pulling, next_ask, served_chunk}
 use Rattle.stream_core.specs.declared.data.ChunkAsk.{ChunkAsk}
+use Rattle.topo_state.specs.Moves.{is_cleaned_by}
 use Rattle.topo_state.specs.Rules.{rule}
 use Rattle.history_facts.proofs.LegalLemmas.{addressed, rule_takes}
+use Rattle.history_facts.proofs.NameLemmas.{or_first, or_second, same_replica-refl}
 
 pub data Sends (opening : Opening) (history : History) : Event → Message → Type 0 where
-  sends_ask : {lane : LaneId} {operation : Operation} {version : Version} (route : Route) (to : Replica) → way_of opening history lane operation version ≡ Goes route → Sends opening history (Begin lane operation version) (ask_of lane (next_op history lane) version operation to)
+  sends_ask : {lane : LaneId} {operation : Operation} {version : Version} (route : Route) (to : Replica) → way_of opening history lane operation version ≡ Goes route → has_replica route.targets to ≡ true → Sends opening history (Begin lane operation version) (ask_of lane (next_op history lane) version operation to)
   sends_written : {host : HostId} {at : MsgRef} (ask : WriteAsk) → message_at history at ≡ Some (WriteSent ask) → ask.to.host ≡ host → Sends opening history (Serve host at) (AnswerSent (record { lane = ask.lane; op = ask.op; from = ask.to; said = said_to ask.version (fence_of opening history host) Written }))
   sends_found : {host : HostId} {at : MsgRef} (ask : ReadAsk) → message_at history at ≡ Some (ReadSent ask) → ask.to.host ≡ host → Sends opening history (Serve host at) (AnswerSent (record { lane = ask.lane; op = ask.op; from = ask.to; said = said_to ask.version (fence_of opening history host) (Found (held_cell opening history host (read_key ask))) }))
   sends_chunk : {host : HostId} {at : MsgRef} (ask : ChunkAsk) → message_at history at ≡ Some (ChunkAskSent ask) → ask.to ≡ host → Sends opening history (Serve host at) (ChunkSent (served_chunk (held_cells opening history host) ask))
@@ -81,14 +83,16 @@ begin_sends :
     Sends opening history (Begin lane operation version) message
 begin_sends opening history lane operation version (Ends reply) out message is e =
     let wrong = only_out (Replied (next_op history lane) version (kind_of operation) reply) (Sent message) out e in cc wrong
-begin_sends opening history lane operation version (Goes route) out message is e = asks route.targets out e
+begin_sends opening history lane operation version (Goes route) out message is e = asks route.targets (λ to there. there) out e
   where
-    asks : (targets : List Replica) (out : ℕ) → slice_get (map (sent_ask lane (next_op history lane) version operation) targets) out ≡ Some (Sent message) → Sends opening history (Begin lane operation version) message
-    asks [] out e = cc e
-    asks (target ∷ targets) zero e =
+    asks : (targets : List Replica) → ((to : Replica) → has_replica targets to ≡ true → has_replica route.targets to ≡ true) → (out : ℕ) → slice_get (map (sent_ask lane (next_op history lane) version operation) targets) out ≡ Some (Sent message) → Sends opening history (Begin lane operation version) message
+    asks [] among out e = cc e
+    asks (target ∷ targets) among zero e =
         let same : ask_of lane (next_op history lane) version operation target ≡ message = cc e in
-        subst (Sends opening history (Begin lane operation version)) same (sends_ask route target is)
-    asks (target ∷ targets) (suc out) e = asks targets out e
+        let here : has_replica (target ∷ targets) target ≡ true = or_first (same_replica target target) (has_replica targets target) (same_replica-refl target) in
+        subst (Sends opening history (Begin lane operation version)) same (sends_ask route target is (among target here))
+    asks (target ∷ targets) among (suc out) e =
+        asks targets (λ to there. among to (or_second (same_replica to target) (has_replica targets to) there)) out e
 
 decided_sends : (op : OpId) (answers : List Answer) (request : Option Request) (out : ℕ) (message : Message) → slice_get (decided_by op answers request) out ≡ Some (Sent message) → ⊥
 decided_sends op answers None out message e = cc e
