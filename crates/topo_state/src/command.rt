@@ -1,6 +1,9 @@
+ghost use Rattle.std.specs.Prelude.{◌≡◌, IfOk};
+
 use crate::data::ResizeKind;
-use base_ids::{HostId, Replica, ReplicaList, Session, TableId, Version};
+use base_ids::{HostId, NoMemory, Replica, ReplicaList, Session, TableId, Version};
 use stage_graph::Stage;
+use std::alloc::Global;
 use token_ring::TabletId;
 
 /// A command to change the topology. A new table has at most `2^10` tablets, with 1 to 8 replicas each.
@@ -53,6 +56,51 @@ pub enum Command {
         /// The decision's number.
         seq: Session,
     },
+}
+
+impl Command {
+    /// An equal command.
+    pub fn clone_in(&self, alloc: Global) -> Result<Command, NoMemory>
+        ensures { IfOk result (λ command. command ≡ self.now) }
+    {
+        Ok(match self {
+            Command::CreateTable {
+                table,
+                log2,
+                replicas,
+            } => Command::CreateTable {
+                table: *table,
+                log2: *log2,
+                replicas: replicas.clone_in(alloc)?,
+            },
+            Command::Start {
+                table,
+                tablet,
+                leaving,
+                pending,
+            } => Command::Start {
+                table: *table,
+                tablet: *tablet,
+                leaving: *leaving,
+                pending: *pending,
+            },
+            Command::Advance { session, to } => Command::Advance {
+                session: *session,
+                to: *to,
+            },
+            Command::SetFence(version) => Command::SetFence(*version),
+            Command::Join(host) => Command::Join(*host),
+            Command::Leave(host) => Command::Leave(*host),
+            Command::Resize { table, kind } => Command::Resize {
+                table: *table,
+                kind: *kind,
+            },
+            Command::FinalizeResize { table, seq } => Command::FinalizeResize {
+                table: *table,
+                seq: *seq,
+            },
+        })
+    }
 }
 
 /// A rule that a command breaks. The rules of a command are looked at in a fixed order.
