@@ -1,4 +1,5 @@
 ghost use Rattle.std.specs.Prelude.{◌≡◌, ◌≤◌, None, Some, IfOk, MatchResult};
+ghost use Rattle.topo_coord.specs.Rules.{propose_rule};
 ghost use Rattle.topo_coord.specs.Topo.{topo_first, topo_restarted, topo_rule, topo_after, topo_out, IsReady};
 
 use crate::data::{TopoInput, TopoOut};
@@ -7,7 +8,7 @@ use barrier_core::{Ask, Evidence};
 use base_ids::{EventRule, HostId, NoMemory, StateId};
 use std::alloc::Global;
 use std::marker::Model;
-use topo_state::TopoState;
+use topo_state::{Command, TopoState};
 
 /// An input for which all memory is there. Callers see it as that input.
 #[derive(Drop)]
@@ -85,16 +86,21 @@ impl TopoCore {
         ensures { MatchResult result (λ _. topo_rule self.now.core input.now ≡ None) (λ broken. topo_rule self.now.core input.now ≡ Some broken) }
     {
         match input {
-            TopoInput::Propose(command) => {
-                match propose_rule(self.state(), &self.evidence, command) {
-                    None => Ok(()),
-                    Some(rule) => Err(rule),
-                }
-            }
+            TopoInput::Propose(command) => self.check_command(command),
             TopoInput::Look { .. }
             | TopoInput::Ask { .. }
             | TopoInput::Hear(_)
             | TopoInput::HearNotMine => Ok(()),
+        }
+    }
+
+    /// Whether the command may be proposed. The error is the first rule that this breaks.
+    pub fn check_command(&self, command: &Command) -> Result<(), EventRule>
+        ensures { MatchResult result (λ _. propose_rule self.now.core.state self.now.core.facts command.now ≡ None) (λ broken. propose_rule self.now.core.state self.now.core.facts command.now ≡ Some broken) }
+    {
+        match propose_rule(self.state(), &self.evidence, command) {
+            None => Ok(()),
+            Some(rule) => Err(rule),
         }
     }
 
