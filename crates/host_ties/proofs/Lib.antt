@@ -1,0 +1,4 @@
+pub mod PullLemmas
+pub mod LogLemmas
+pub mod HostRules
+pub mod HostTies

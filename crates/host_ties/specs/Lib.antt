@@ -1,0 +1,2 @@
+pub mod HostTies
+pub mod HostRules

@@ -1,0 +1,3 @@
+pub mod SessionLemmas
+pub mod RuleLemmas
+pub mod TopoTies
