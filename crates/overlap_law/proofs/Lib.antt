@@ -1,0 +1,21 @@
+pub mod PrefixLemmas
+pub mod LagLemmas
+mod CountsLemmas
+pub mod CountLemmas
+pub mod SaidLemmas
+pub mod SettledLemmas
+pub mod KeptLemmas
+pub mod CoverLemmas
+pub mod SeenLemmas
+pub mod EntryLemmas
+pub mod EndedLemmas
+pub mod AckedLemmas
+pub mod GoodLemmas
+pub mod BoundLemmas
+pub mod RefineLemmas
+pub mod HeadlineLemmas
+pub mod CleanLemmas
+pub mod LossLemmas
+pub mod RaiseLemmas
+pub mod JointLemmas
+pub mod CarryLemmas
