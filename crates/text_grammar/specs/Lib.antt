@@ -1,0 +1,9 @@
+pub mod Rules
+pub mod Words
+pub mod Shapes
+pub mod Readings
+pub mod Lines
+pub mod Folds
+pub mod Cuts
+pub mod Judging
+pub mod Results
