@@ -1,0 +1,73 @@
+-- The language of schedule texts: what may stand as a line behind others, what a line makes, and what a text says.
+use Rattle.std.specs.Prelude.{ℕ, List, [], ◌∷◌, ◌++◌, Option, Result, Ok, Err}
+use Rattle.cluster_history.specs.declared.data.Opening.{Opening}
+use Rattle.schedule_data.specs.declared.data.LineAct.{LineAct}
+use Rattle.schedule_data.specs.declared.data.SchedLine.{SchedLine}
+use Rattle.schedule_data.specs.declared.data.Schedule.{Schedule}
+use Rattle.text_grammar.specs.declared.faults.TextRule.TheVariants.{NoHeader, NoGo}
+use Rattle.text_grammar.specs.declared.faults.Fault.{Fault}
+use Rattle.text_grammar.specs.declared.faults.Fault.TheVariants.{Refused}
+use Rattle.text_grammar.specs.Judging.{if_so}
+use Rattle.text_grammar.specs.Shapes.{Shape, Made, Whole}
+use Rattle.text_grammar.specs.Lines.{Language}
+use Rattle.schedule_words.specs.Labels.{LineOf, no_labels, after_label}
+use Rattle.schedule_words.specs.declared.counts.Counts.{Counts}
+use Rattle.schedule_header.specs.Header.{Header, no_header, Said as HeaderSaid, Step, More, Opened, step_of}
+use Rattle.schedule_header.specs.Forms.{is_first, header_line}
+use Rattle.schedule_lines.specs.Forms.{act_form}
+
+-- what the lines behind the header have said so far
+pub record Body : Type 0 where
+  pub opening : Opening
+  pub labels : LineOf
+  pub lines : List SchedLine
+
+-- what a text has said so far
+pub data State : Type 0 where
+  Nothing : State
+  InHeader : Header → State
+  InBody : Body → State
+
+-- what a line says: the format, a line of the header, or what is played, with a label where it has one
+pub data Said : Type 0 where
+  SaidFormat : Said
+  SaidHeader : HeaderSaid → Said
+  SaidAct : Option (List ℕ) × LineAct → Said
+
+-- whom a line may name as the one that acts
+abbrev pub counts_of : Opening → Counts
+counts_of opening = record { hosts = opening.hosts; lanes = opening.lanes }
+
+-- what may stand next
+abbrev pub form_at : State → Shape Said
+form_at Nothing = Whole (λ words. if_so (is_first words) NoHeader SaidFormat)
+form_at (InHeader header) = Made (header_line header) SaidHeader
+form_at (InBody body) = Made (act_form (counts_of body.opening) body.labels) SaidAct
+
+-- the state behind a line of the header
+abbrev pub state_of : Step → State
+state_of (More header) = InHeader header
+state_of (Opened opening) = InBody (record { opening = opening; labels = no_labels; lines = [] })
+
+-- behind a line of this number that is played
+abbrev pub after_act : ℕ → Body → Option (List ℕ) × LineAct → Body
+after_act number body said =
+    record body {
+      labels = after_label body.labels said.0 number;
+      lines = body.lines ++ record { line = number; act = said.1 } ∷ [];
+    }
+
+abbrev pub after_line : ℕ → State → Said → State
+after_line number Nothing said = InHeader no_header
+after_line number (InHeader header) (SaidHeader said) = state_of (step_of header said)
+after_line number (InBody body) (SaidAct said) = InBody (after_act number body said)
+after_line number state said = state
+
+-- what the whole text says
+abbrev pub finish : State → Result Schedule Fault
+finish Nothing = Err (Refused NoHeader)
+finish (InHeader header) = Err (Refused NoGo)
+finish (InBody body) = Ok (record { opening = body.opening; lines = body.lines })
+
+abbrev pub schedules : Language State Said Schedule
+schedules = record { shape = form_at; after = after_line; finish = finish }

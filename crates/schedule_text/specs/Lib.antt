@@ -1,0 +1,4 @@
+pub mod Language
+pub mod Texts
+pub mod Sound
+pub mod Code
