@@ -1,0 +1,56 @@
+-- The words by which a written journal names things, and lines made of words. Numbers have no leading zeros, and letters
+-- are lower-case.
+use Rattle.std.specs.Fmt.{decimal}
+use Rattle.std.specs.Prelude.{List, None, Option, Some, [], codes, map, ℕ, ◌++◌, ◌∷◌}
+use Rattle.base_ids.specs.declared.ids.HostId.{HostId}
+use Rattle.base_ids.specs.declared.ids.LaneId.{LaneId}
+use Rattle.base_ids.specs.declared.ids.MsgRef.{MsgRef}
+use Rattle.base_ids.specs.declared.ids.Replica.{Replica}
+use Rattle.stage_graph.specs.Words.{word as stage_word}
+use Rattle.stage_graph.specs.declared.stage.Stage.{Stage}
+use Rattle.topo_state.specs.declared.data.ResizeKind.{ResizeKind}
+use Rattle.topo_state.specs.declared.data.ResizeKind.TheVariants.{Keep, Merge, Split}
+
+-- ---- lines
+
+-- words behind another one, each after a space, byte 32
+abbrev pub spaced : List (List ℕ) → List ℕ
+spaced [] = []
+spaced (word ∷ words) = 32 ∷ (word ++ spaced words)
+
+-- words with one space between two of them
+abbrev pub joined : List (List ℕ) → List ℕ
+joined [] = []
+joined (word ∷ words) = word ++ spaced words
+
+-- a line: its words, and LF
+abbrev pub line_text : List (List ℕ) → List ℕ
+line_text words = joined words ++ codes "\n"
+
+-- ---- words
+
+abbrev pub host_word : HostId → List ℕ
+host_word host = decimal host.0
+
+abbrev pub lane_word : LaneId → List ℕ
+lane_word lane = decimal lane.host.0 ++ (codes "." ++ decimal lane.lane)
+
+abbrev pub replica_word : Replica → List ℕ
+replica_word replica = decimal replica.host.0 ++ (codes ":" ++ decimal replica.shard.0)
+
+abbrev pub replica_words : List Replica → List (List ℕ)
+replica_words replicas = map replica_word replicas
+
+-- a message, by the number of its event
+abbrev pub reference_word : MsgRef → List ℕ
+reference_word at = decimal at.event ++ (codes "." ++ decimal at.out)
+
+-- a stage, or the end of a transition
+abbrev pub target_word : Option Stage → List ℕ
+target_word None = codes "none"
+target_word (Some stage) = stage_word stage
+
+abbrev pub resize_word : ResizeKind → List ℕ
+resize_word Split = codes "split"
+resize_word Merge = codes "merge"
+resize_word Keep = codes "keep"
