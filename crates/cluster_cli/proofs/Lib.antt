@@ -1,13 +1,3 @@
 pub mod EndingLemmas
-pub mod GrammarFaults
-pub mod GrammarLines
-pub mod GrammarNumbers
-pub mod GrammarPieces
-pub mod GrammarText
-pub mod PlayLemmas
-pub mod TextCutLemmas
-pub mod TextCellLemmas
-pub mod TextHeaderLemmas
-pub mod TextLineLemmas
-pub mod TextPlayable
+pub mod ReadingLemmas
 pub mod WritingLemmas

@@ -1,8 +1,8 @@
 -- The statuses with which the program ends, and their numbers.
-use Rattle.std.specs.Prelude.{ℕ, Result, Ok, Err}
+use Rattle.std.specs.Prelude.{Err, Ok, Result, ℕ}
 use Rattle.fault_io.specs.declared.writing.WriteFault.{WriteFault as SinkFault}
 use Rattle.cluster_cli.specs.declared.status.Status.{Status}
-use Rattle.cluster_cli.specs.declared.status.Status.TheVariants.{Done, Usage, Refused, NotEnabled, ReadFault, WriteFault, Limit, NoMemory}
+use Rattle.cluster_cli.specs.declared.status.Status.TheVariants.{Done, Limit, NoMemory, NotEnabled, ReadFault, Refused, Usage, WriteFault}
 
 abbrev pub status_number : Status → ℕ
 status_number Done = 0

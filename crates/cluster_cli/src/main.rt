@@ -1,13 +1,14 @@
-// The program: it reads its words and standard input, and writes to standard output.
+//! The program: it reads its words and standard input, and writes to standard output.
 #![tactic(auto)]
 
-mod play;
+mod endings;
+mod opening;
+mod outcome;
+mod plays;
 mod process;
 mod program;
-mod report;
-mod schedule;
 mod status;
-mod text;
+mod texts;
 
 use base_ids::{Items, NoMemory};
 use fault_io::{CountedReader, CountedWriter, StdSink, StdSource};
@@ -38,7 +39,5 @@ fn main(rt: HostRuntime) -> ExitCode {
     exit_code(&outcome)
 }
 
-#[cfg(test)]
-mod error_texts;
 #[cfg(test)]
 mod tests;

@@ -1,9 +1,10 @@
-// What the process hands to the program, and what it gets back.
+//! What the process hands to the program, and what it gets back.
 ghost use Rattle.std.specs.Prelude.{◌≡◌, IfOk, map, drop, string_bytes};
 ghost use Rattle.std.specs.Process.{exit_status};
 ghost use Rattle.std.specs.Vec.Iter.{into_iter_items};
 
-use crate::program::{Outcome, Words};
+use crate::outcome::Outcome;
+use crate::program::Words;
 use base_ids::{Items, NoMemory};
 use std::alloc::Global;
 use std::env::Args;

@@ -1,4 +1,4 @@
-// How the program ends.
+//! How the program ends.
 ghost use Rattle.std.specs.Prelude.{◌≡◌};
 
 /// With which status the program ends.
@@ -8,7 +8,7 @@ pub enum Status {
     Done,
     /// The words name no command.
     Usage,
-    /// The text is not of the built form.
+    /// The text is not in the grammar.
     Refused,
     /// An event is not enabled.
     NotEnabled,

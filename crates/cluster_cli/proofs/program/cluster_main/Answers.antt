@@ -1,61 +1,41 @@
-use Rattle.std.proofs.Common.{[], refl, ◌∙◌, sym}
-use Rattle.cluster_cli.proofs.EndingLemmas.{answers-play, answers-usage-told, answer-usage, said-usage}
+use Rattle.std.proofs.Common.{[], rules}
+use Rattle.command_words.specs.Words.{asked}
+use Rattle.cluster_cli.specs.Endings.{command_ending}
+use Rattle.cluster_cli.proofs.ReadingLemmas.{answer-unread}
 use Rattle.cluster_cli.proofs.program.cluster_main.Goals as goal
 
-pub returns-else-is_play-clause-told : goal.returns-else-is_play-clause-told
-returns-else-is_play-clause-told g c =
-    answers-usage-told
-    (g.S.Source.account c.args.source.now).left
-    c.args.words.now
-    _
-    _
-    _
-    (g.S.Source.account c.args.source.now)
-    _
-    _
-    (sym c.is_play.ensures ∙ c.if-is_play.false)
-    c.no_journal.ensures
-    refl
-    c.say-outcome.ensures.came
-
-pub returns-else-is_play-clause-taken : goal.returns-else-is_play-clause-taken
-returns-else-is_play-clause-taken g c = (
+pub returns-in-Ok-Some-Gen-clause-taken : goal.returns-in-Ok-Some-Gen-clause-taken
+returns-in-Ok-Some-Gen-clause-taken g c = (
   [],
-  answer-usage
-      c.args.words.now
-      _
-      _
-      _
+  answer-unread
+      (command_ending (asked c.args.words.now) [])
+      c.gen_main.result
       (g.S.Source.account c.args.source.now)
-      _
-      _
-      (sym c.is_play.ensures ∙ c.if-is_play.false)
-      c.no_journal.ensures
-      refl
-      c.say-outcome.ensures.came,
+      (g.K.Sink.account c.args.sink.now)
+      (g.K.Sink.account c.gen_main.new.sink)
+      (search rules),
 )
 
-pub returns-then-is_play-clause-told : goal.returns-then-is_play-clause-told
-returns-then-is_play-clause-told g c =
-    answers-play
-    (g.S.Source.account c.args.source.now).left
-    c.args.words.now
-    _
-    (g.S.Source.account c.args.source.now)
-    (g.S.Source.account c.play_main.new.source)
-    (g.K.Sink.account c.args.sink.now)
-    (g.K.Sink.account c.play_main.new.sink)
-    (sym c.is_play.ensures ∙ c.if-is_play.true)
-    c.play_main.ensures.told
+pub returns-in-Ok-None-clause-taken : goal.returns-in-Ok-None-clause-taken
+returns-in-Ok-None-clause-taken g c = (
+  [],
+  answer-unread
+      (command_ending (asked c.args.words.now) [])
+      c.say_usage-outcome.result
+      (g.S.Source.account c.args.source.now)
+      (g.K.Sink.account c.args.sink.now)
+      (g.K.Sink.account c.say_usage-outcome.new.sink)
+      (search rules),
+)
 
-pub returns-else-is_play-clause-usage : goal.returns-else-is_play-clause-usage
-returns-else-is_play-clause-usage g c =
-    λ _. said-usage
-    _
-    _
-    _
-    (g.K.Sink.account c.args.sink.now)
-    (g.K.Sink.account c.say-outcome.new.sink)
-    c.no_journal.ensures
-    refl
-    c.say-outcome.ensures.came
+pub returns-in-Err-clause-taken : goal.returns-in-Err-clause-taken
+returns-in-Err-clause-taken g c = (
+  [],
+  answer-unread
+      (command_ending (asked c.args.words.now) [])
+      c.starved-outcome.result
+      (g.S.Source.account c.args.source.now)
+      (g.K.Sink.account c.args.sink.now)
+      (g.K.Sink.account c.args.sink.now)
+      (search rules),
+)

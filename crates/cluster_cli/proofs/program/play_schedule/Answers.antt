@@ -1,8 +1,0 @@
-use Rattle.cluster_cli.specs.Play.{played}
-use Rattle.cluster_cli.specs.Program.{play_ending}
-use Rattle.cluster_cli.proofs.EndingLemmas.{came-unopened}
-use Rattle.cluster_cli.proofs.program.play_schedule.Goals as goal
-
-pub returns-in-Err-clause-came : goal.returns-in-Err-clause-came
-returns-in-Err-clause-came g c =
-    came-unopened (play_ending (played c.args.schedule.now)) _ _ _ c.starved.ensures c.no_journal.ensures

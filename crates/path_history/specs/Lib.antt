@@ -1,6 +1,0 @@
-pub mod Openings
-pub mod Names
-pub mod History
-pub mod Held
-pub mod Requests
-pub mod Legal

@@ -1,3 +1,0 @@
-pub mod ClientEvents
-pub mod Headline
-pub mod Counts
