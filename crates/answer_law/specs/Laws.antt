@@ -73,7 +73,7 @@ TakenAnswersWereSent =
     (history : History) (lane : LaneId) (op : OpId) → AllSentTo history lane op (answers_of history lane op)
 
 -- Fewer of the targets have answered than the request needs, and those that have not refused are as many as it needs.
-pub record IsUndecided (history : History) (lane : LaneId) (op : OpId) (request : Request) : Type 0 where
+pub record IsOpenRequest (history : History) (lane : LaneId) (op : OpId) (request : Request) : Type 0 where
   pub unanswered : answered_count (answers_of history lane op) request.targets < request.need
   pub hopeful : request.need ≤ length request.targets - refused_count (answers_of history lane op) request.targets
 
@@ -84,7 +84,7 @@ LiveRequestsAreUndecided =
     IsLegalHistory opening history →
     is_live history lane op ≡ true →
     request_at opening history lane op ≡ Some request →
-    IsUndecided history lane op request
+    IsOpenRequest history lane op request
 
 -- ---- replies
 

@@ -55,8 +55,8 @@ abbrev pub is_complete_by : Mode → List Told → Version → List HostId → L
 is_complete_by mode facts version members before =
     all_told facts (fact_of mode version) members && all_told facts (fact_of mode version) before
 
--- all hosts of both lists have drained the version, or all have fenced it: to drain a version is to let no request below
--- it begin or live, and to fence it is to refuse each one below it
+-- all hosts of both lists have drained the version, or all have fenced it: to drain a version is to let no request
+-- below it begin or live, and to fence it is to refuse each one below it
 abbrev pub is_complete : List Told → Version → List HostId → List HostId → Bool
 is_complete facts version members before =
     is_complete_by Drained facts version members before || is_complete_by Fenced facts version members before

@@ -9,8 +9,8 @@ use std::marker::Model;
 
 /// The facts that a coordinator has heard. Each is found by the host and by what it told.
 ///
-/// Callers see the list of the facts, the newest first and none of them twice, and `spare`: how many more are sure to be
-/// noted without taking memory.
+/// Callers see the list of the facts, the newest first and none of them twice, and `spare`: how many more are sure to
+/// be noted without taking memory.
 #[derive(Drop)]
 pub struct Evidence {
     told: IndexSet<Told>,
@@ -105,8 +105,8 @@ impl Evidence {
         self.has_told(What::Ready(seq), host)
     }
 
-    /// How a version was left behind on all hosts of both lists: drained where each of them has told that it drained the
-    /// version, else fenced where each of them has told that it fenced it, else `None`.
+    /// How a version was left behind on all hosts of both lists: drained where each of them has told that it drained
+    /// the version, else fenced where each of them has told that it fenced it, else `None`.
     pub fn complete(&self, version: Version, members: &[HostId], before: &[HostId]) -> Option<Mode>
         ensures mode { result ≡ complete_mode self.now.facts version members.now before.now }
         ensures complete { is_some result ≡ is_complete self.now.facts version members.now before.now }

@@ -20,8 +20,7 @@ use Rattle.cluster_history.proofs.LogLemmas.{has_version, state_with-stays}
 use Rattle.cluster_history.specs.History.{History}
 use Rattle.cluster_history.specs.Legal.{IsLegalHistory, broken_rule, outputs_of}
 use Rattle.cluster_history.specs.Openings.{opening_state}
-use Rattle.cluster_history.specs.Outputs.{judged}
-use Rattle.cluster_history.specs.Rules.{first_broken, is_fence, lacks_cleaned, lacks_done, lacks_ready, propose_rule}
+use Rattle.cluster_history.specs.Rules.{first_broken_rule, is_fence, lacks_cleaned, lacks_done, lacks_ready, propose_rule}
 use Rattle.cluster_history.specs.Topology.{accepted_command, applied_count, evidence_of, last_state, log_of, look_of, seen_state, state_of_version, version_of, with_command}
 use Rattle.cluster_history.specs.declared.data.Entry.{Entry}
 use Rattle.cluster_history.specs.declared.data.Event.{Event}
@@ -29,7 +28,7 @@ use Rattle.cluster_history.specs.declared.data.Event.TheVariants.{Propose}
 use Rattle.cluster_history.specs.declared.data.Opening.{Opening}
 use Rattle.cluster_history.specs.declared.data.Output.TheVariants.{Proposed}
 use Rattle.group0_log.proofs.StateLemmas.{at_last}
-use Rattle.group0_log.specs.Log.{state_at, state_of, state_with}
+use Rattle.group0_log.specs.Log.{state_at, state_of, state_with, judged}
 use Rattle.group0_log.specs.Versions.{raises}
 use Rattle.history_facts.proofs.HostLemmas.{floor-rises, floor_below_version, log_legal}
 use Rattle.history_facts.proofs.NameLemmas.{both_true, same_host-same}
@@ -70,7 +69,7 @@ no_fence : (command : Command) → raises command ≡ 1 → is_fence command ≡
 no_fence (SetFence version) e = cc e
 no_fence command e = refl
 
-unbroken_first : (test : Bool) (named : EventRule) (rest : List (Bool × EventRule)) → first_broken ((test, named) ∷ rest) ≡ None → test ≡ false
+unbroken_first : (test : Bool) (named : EventRule) (rest : List (Bool × EventRule)) → first_broken_rule ((test, named) ∷ rest) ≡ None → test ≡ false
 unbroken_first true named rest e = cc e
 unbroken_first false named rest e = refl
 

@@ -1,11 +1,11 @@
 // The identifiers, the lists and the small enums that every other crate speaks of.
 #![tactic(auto)]
 
-pub mod ids;
-pub mod items;
-pub mod memory;
-pub mod replicas;
-pub mod rules;
+mod ids;
+mod items;
+mod memory;
+mod replicas;
+mod rules;
 
 pub use ids::{
     Actor, HostId, LaneId, MsgRef, OpId, Replica, Session, ShardId, StateId, TableId, Version,

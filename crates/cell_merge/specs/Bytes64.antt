@@ -15,6 +15,7 @@ length-front len bytes h =
     length-take-le len bytes fits
 
 -- the array is its front and as many zeros as are missing
-pub front_padded : (len : ℕ) (bytes : List ℕ) → IsPadded len bytes → take len bytes ++ replicate (64 - length (take len bytes)) 0 ≡ bytes
+pub front_padded : (len : ℕ) (bytes : List ℕ) → IsPadded len bytes →
+    take len bytes ++ replicate (64 - length (take len bytes)) 0 ≡ bytes
 front_padded len bytes h =
     rw (length-front len bytes h, ← h.rest) (take-append-drop len bytes)

@@ -21,7 +21,10 @@ impl Model for Bytes64 {
 
     ghost inverse = { λ l. record { bytes = l ++ replicate (64 - length l) 0; len = length l } };
 
-    ghost inverse_ok = { λ b h i. record { bytes = front_padded b.len b.bytes h i; len = length-front b.len b.bytes h i } };
+    ghost inverse_ok = { λ b h i. record {
+      bytes = front_padded b.len b.bytes h i;
+      len = length-front b.len b.bytes h i;
+    } };
 }
 
 impl Bytes64 {

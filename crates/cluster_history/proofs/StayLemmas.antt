@@ -28,9 +28,9 @@ use Rattle.cluster_history.specs.Moves.{first_pull}
 use Rattle.topo_state.specs.Moves.{is_cleaned_by}
 use Rattle.cluster_history.specs.Openings.{opening_state}
 use Rattle.cluster_history.specs.Outputs.{answer_outputs, begin_outputs, chunk_outputs, clean_outputs, pull_outputs, serve_outputs, take_outputs, timeout_outputs}
-use Rattle.cluster_history.specs.Requests.{Way, begins, begun_count, begun_ops, has_live_below, is_begin_of, is_below, is_live, lags, live_count, next_op, numbers_below, replies_to, request_at, request_on, started_request, way_in, way_of}
+use Rattle.cluster_history.specs.Requests.{Way, begins_request, begun_count, begun_ops, has_live_below, is_begin_of, is_below, is_live, lags, live_count, next_op, numbers_below, replies_to, request_at, request_on, started_request, way_in, way_of}
 use Rattle.cluster_history.specs.Requests.Way.{Ends, Goes}
-use Rattle.cluster_history.specs.Rules.{answer_rule, apply_rule, begin_rule, first_broken, is_so, message_rule, most_live, propose_rule, pull_rule, timeout_rule}
+use Rattle.cluster_history.specs.Rules.{answer_rule, apply_rule, begin_rule, first_broken_rule, is_so, message_rule, most_live, propose_rule, pull_rule, timeout_rule}
 use Rattle.cluster_history.specs.Stays.{EnabledEventsStay, StaysEnabled, hinders}
 use Rattle.cluster_history.specs.Topology.{accepted_command, applied_count, applied_state, floor_of, greater_version, is_apply_of, log_of, look_of, raised_floor, seen_state, state_of_version, version_of, with_command}
 use Rattle.cluster_history.specs.declared.data.Entry.{Entry}
@@ -95,15 +95,15 @@ floor_from_first (entry ∷ history) host =
     raised_from_first (raised_floor host entry.event) (floor_of history host) (floor_from_first history host)
 
 -- what passed a list of tests
-passed_first : (test : Bool) (rule : EventRule) (rest : List (Bool × EventRule)) → first_broken ((test, rule) ∷ rest) ≡ None → test ≡ false
+passed_first : (test : Bool) (rule : EventRule) (rest : List (Bool × EventRule)) → first_broken_rule ((test, rule) ∷ rest) ≡ None → test ≡ false
 passed_first true rule rest e = cc e
 passed_first false rule rest e = refl
 
-passed_rest : (test : Bool) (rule : EventRule) (rest : List (Bool × EventRule)) → first_broken ((test, rule) ∷ rest) ≡ None → first_broken rest ≡ None
+passed_rest : (test : Bool) (rule : EventRule) (rest : List (Bool × EventRule)) → first_broken_rule ((test, rule) ∷ rest) ≡ None → first_broken_rule rest ≡ None
 passed_rest true rule rest e = cc e
 passed_rest false rule rest e = e
 
-passing : (test : Bool) (rule : EventRule) (rest : List (Bool × EventRule)) → test ≡ false → first_broken rest ≡ None → first_broken ((test, rule) ∷ rest) ≡ None
+passing : (test : Bool) (rule : EventRule) (rest : List (Bool × EventRule)) → test ≡ false → first_broken_rule rest ≡ None → first_broken_rule ((test, rule) ∷ rest) ≡ None
 passing true rule rest e f = cc e
 passing false rule rest e f = f
 
@@ -249,7 +249,7 @@ and_false false b e = refl
 
 lagging-begun :
     (opening : Opening) (history : History) (entry : Entry) (version : Version) (lane : LaneId) (op : OpId) →
-    hinders entry.event (Quiet lane.host version) ≡ false → begins history entry.event lane op ≡ true →
+    hinders entry.event (Quiet lane.host version) ≡ false → begins_request history entry.event lane op ≡ true →
     lagging opening (entry ∷ history) version lane op ≡ false
 lagging-begun opening history entry version lane op free begun =
     let is_begin : is_begin_of lane entry.event ≡ true = and_left (is_begin_of lane entry.event) _ begun in
@@ -267,7 +267,7 @@ lagging-stays :
     hinders entry.event (Quiet lane.host version) ≡ false → lagging opening history version lane op ≡ false →
     lagging opening (entry ∷ history) version lane op ≡ false
 lagging-stays opening history entry version lane op free before =
-    (elim (begins history entry.event lane op) as (λ b. begins history entry.event lane op ≡ b → lagging opening (entry ∷ history) version lane op ≡ false) [
+    (elim (begins_request history entry.event lane op) as (λ b. begins_request history entry.event lane op ≡ b → lagging opening (entry ∷ history) version lane op ≡ false) [
       | true ↦ λ e. lagging-begun opening history entry version lane op free e
       | false ↦ λ e.
           rw e (not_live (is_live history lane op) (replies_to entry lane op || is_restart_of (ByLane lane) entry.event) (is_below version (request_at opening history lane op)) before)
@@ -288,7 +288,7 @@ lags-stays opening history entry version lane free before =
     (elim (is_begin_of lane entry.event) as (λ b. is_begin_of lane entry.event ≡ b → list_any new (if b then begun_ops history lane ++ next_op history lane ∷ [] else begun_ops history lane) ≡ false) [
       | true ↦ λ e.
           let same : (begun_count history lane + 1 == begun_count history lane + 1) ≡ true = grind (arith, nat_tests) in
-          let first : begins history entry.event lane (next_op history lane) ≡ true = rw e same in
+          let first : begins_request history entry.event lane (next_op history lane) ≡ true = rw e same in
           none_more new (begun_ops history lane) (next_op history lane) kept (lagging-begun opening history entry version lane (next_op history lane) free first)
       | false ↦ λ e. kept
     ]) refl in

@@ -151,13 +151,13 @@ cleaned_move opening history host (Clean by at) outputs =
 cleaned_move opening history host event outputs = None
 
 -- the key lies in the range of the move's tablet
-abbrev pub covers : Option Move → Key → Bool
-covers None key = false
-covers (Some move) key = is_within move.table move.range key.table key.token
+abbrev pub covers_key : Option Move → Key → Bool
+covers_key None key = false
+covers_key (Some move) key = is_within move.table move.range key.table key.token
 
 -- the entry drops from the host what it held at the key
 abbrev pub drops : Opening → History → Entry → HostId → Key → Bool
-drops opening history entry host key = covers (cleaned_move opening history host entry.event entry.outputs) key
+drops opening history entry host key = covers_key (cleaned_move opening history host entry.event entry.outputs) key
 
 -- ---- what a host holds
 

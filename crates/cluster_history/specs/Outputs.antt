@@ -8,9 +8,8 @@ use Rattle.base_ids.specs.declared.ids.OpId.{OpId}
 use Rattle.base_ids.specs.declared.ids.Replica.{Replica}
 use Rattle.base_ids.specs.declared.ids.Session.{Session}
 use Rattle.base_ids.specs.declared.ids.Version.{Version}
-use Rattle.base_ids.specs.declared.rules.Appended.{Appended}
-use Rattle.base_ids.specs.declared.rules.Appended.TheVariants.{Accepted, Conflict, Illegal}
 use Rattle.cell_merge.specs.declared.cell.Cell.{Cell}
+use Rattle.group0_log.specs.Log.{outcome_of}
 use Rattle.quorum_ops.specs.Decision.{decision, timeout_reply}
 use Rattle.quorum_ops.specs.declared.data.Answer.{Answer}
 use Rattle.quorum_ops.specs.declared.data.Reply.{Reply}
@@ -20,7 +19,6 @@ use Rattle.register_model.specs.declared.data.Key.{Key}
 use Rattle.replica_store.specs.Cells.{Cells}
 use Rattle.stream_core.specs.Pulls.{Pulling, is_next, next_ask, served_chunk}
 use Rattle.stream_core.specs.declared.data.ChunkMsg.{ChunkMsg}
-use Rattle.topo_state.specs.Rules.{rule}
 use Rattle.topo_state.specs.declared.command.Rule.{Rule}
 use Rattle.cluster_history.specs.Held.{session_of}
 use Rattle.cluster_history.specs.Messages.{kind_of, read_key}
@@ -135,14 +133,6 @@ chunk_outputs pull_at message = []
 abbrev pub ask_outputs : HostId → HostId → What → List Output
 ask_outputs topo host what = Sent (AskSent (record { by = topo; to = host; what = what })) ∷ []
 
-abbrev pub judged : ℕ → Option Rule → Appended Rule
-judged length None = Accepted (length + 1)
-judged length (Some rule) = Illegal rule
-
--- what becomes of a proposal, by the look, the length of the log, and the rule that the command breaks in the log's
--- state: it is accepted where the log has not grown since the look and it breaks none
-abbrev pub outcome_of : ℕ → ℕ → Option Rule → Appended Rule
-outcome_of look length broken = if look == length then judged length broken else Conflict (record { 0 = length })
-
+-- what becomes of a proposal, by the look, the length of the log, and the rule that the command breaks in its state
 abbrev pub propose_outputs : ℕ → ℕ → Option Rule → List Output
 propose_outputs look length broken = Proposed (outcome_of look length broken) ∷ []

@@ -108,14 +108,14 @@ started_request opening history (Begin lane operation version) =
 started_request opening history event = None
 
 -- the event begins this request
-abbrev pub begins : History → Event → LaneId → OpId → Bool
-begins history event lane op = is_begin_of lane event && (op.0 == begun_count history lane + 1)
+abbrev pub begins_request : History → Event → LaneId → OpId → Bool
+begins_request history event lane op = is_begin_of lane event && (op.0 == begun_count history lane + 1)
 
 -- the request of this name, where it was begun and not answered at once
 abbrev pub request_at : Opening → History → LaneId → OpId → Option Request
 request_at opening [] lane op = None
 request_at opening (entry ∷ history) lane op =
-    if begins history entry.event lane op then started_request opening history entry.event
+    if begins_request history entry.event lane op then started_request opening history entry.event
     else request_at opening history lane op
 
 -- ---- live requests
@@ -139,7 +139,7 @@ replies_to entry lane op = is_event_of lane entry.event && list_any (is_reply_to
 abbrev pub is_live : History → LaneId → OpId → Bool
 is_live [] lane op = false
 is_live (entry ∷ history) lane op =
-    (begins history entry.event lane op || is_live history lane op)
+    (begins_request history entry.event lane op || is_live history lane op)
     && not (replies_to entry lane op || is_restart_of (ByLane lane) entry.event)
 
 -- the numbers of the lane's live requests, in the order of their begins, and how many they are

@@ -28,9 +28,9 @@ use Rattle.cluster_history.specs.declared.data.Output.{Output}
 use Rattle.cluster_history.specs.declared.data.Output.TheVariants.{Sent}
 
 -- tests with the rules that they break, and the first that is broken
-abbrev pub first_broken : List (Bool × EventRule) → Option EventRule
-first_broken [] = None
-first_broken (test ∷ tests) = if test.0 then Some test.1 else first_broken tests
+abbrev pub first_broken_rule : List (Bool × EventRule) → Option EventRule
+first_broken_rule [] = None
+first_broken_rule (test ∷ tests) = if test.0 then Some test.1 else first_broken_rule tests
 
 -- ---- lanes
 
@@ -41,7 +41,7 @@ most_live = 8
 -- a begin, by its version, the floor and the version of the lane's host, and the count of the lane's live requests
 abbrev pub begin_rule : Version → Version → Version → ℕ → Option EventRule
 begin_rule version floor newest live =
-    first_broken (
+    first_broken_rule (
     (nat_lt version.0 floor.0, BelowFloor)
     ∷ (nat_lt newest.0 version.0, AboveVersion)
     ∷ (nat_le most_live live, LaneFull)
@@ -67,7 +67,7 @@ apply_rule applied length = if nat_lt applied length then None else Some Nothing
 -- a quiet event, by its version, the host's version, and whether a lane of the host has a live request below it
 abbrev pub quiet_rule : Version → Version → Bool → Option EventRule
 quiet_rule version newest live_below =
-    first_broken ((nat_lt newest.0 version.0, VersionAhead) ∷ (live_below, LiveBelow) ∷ [])
+    first_broken_rule ((nat_lt newest.0 version.0, VersionAhead) ∷ (live_below, LiveBelow) ∷ [])
 
 -- what a host can tell, by its floor, its applied state, and which of its pulls are done; that it cleaned is told by
 -- the event that cleans
@@ -91,7 +91,7 @@ answer_rule takes is_true output =
 
 -- a pull, by the one that the host's applied state has for it and by the one that it has already
 abbrev pub pull_rule : Option Pulling → Option Pulling → Option EventRule
-pull_rule new pull = first_broken ((is_none new, NoStream) ∷ (is_done pull, PullOver) ∷ [])
+pull_rule new pull = first_broken_rule ((is_none new, NoStream) ∷ (is_done pull, PullOver) ∷ [])
 
 -- ---- proposals, by the state that the coordinator has seen and what it has heard
 
@@ -133,7 +133,7 @@ lacks_ready state facts command = false
 
 abbrev pub propose_rule : Topology → List Told → Command → Option EventRule
 propose_rule state facts command =
-    first_broken (
+    first_broken_rule (
     (lacks_evidence state facts command, NoEvidence)
     ∷ (lacks_done state facts command, NoDone)
     ∷ (lacks_cleaned state facts command, NoCleaned)

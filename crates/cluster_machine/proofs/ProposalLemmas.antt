@@ -10,7 +10,7 @@ use Rattle.base_ids.specs.declared.ids.Actor.TheVariants.{Host as ByHost, Lane a
 use Rattle.base_ids.specs.declared.ids.HostId.{HostId}
 use Rattle.base_ids.specs.declared.memory.NoMemory.{NoMemory}
 use Rattle.base_ids.specs.declared.rules.Appended.TheVariants.{Accepted, Conflict, Illegal}
-use Rattle.group0_log.specs.Log.{CommandLog, log_after as log_with, only_with, or_later, outcome_of as outcome_in, state_of, state_with}
+use Rattle.group0_log.specs.Log.{CommandLog, log_after as log_with, only_with, or_later, outcome_of, state_of, state_with}
 use Rattle.topo_state.specs.After.{after}
 use Rattle.topo_state.specs.Rules.{rule}
 use Rattle.topo_state.specs.State.{Topology}
@@ -20,7 +20,6 @@ use Rattle.topo_state.specs.declared.command.Rule.{Rule}
 use Rattle.cluster_history.specs.History.{History}
 use Rattle.cluster_history.specs.Legal.{entry_of, history_of, outputs_of}
 use Rattle.cluster_history.specs.Openings.{HasHost, opening_state}
-use Rattle.cluster_history.specs.Outputs.{outcome_of}
 use Rattle.cluster_history.specs.Topology.{accepted_command, last_state, log_of, look_of, with_command}
 use Rattle.cluster_history.specs.declared.data.Entry.{Entry}
 use Rattle.cluster_history.specs.declared.data.Event.{Event}
@@ -38,8 +37,8 @@ use Rattle.topo_ties.proofs.TopoTies.{topos_play, topos_stay}
 use Rattle.log_law.proofs.VersionLemmas.{raises_or_not, version_then}
 use Rattle.history_facts.proofs.NameLemmas.{same_host-same}
 use Rattle.cluster_machine.specs.Inputs.{next_first_state, raised_state, rule_in, state_if_accepted}
-use Rattle.cluster_machine.specs.Step.{IsPlayable}
-use Rattle.cluster_machine.specs.Tied.{AreTied, AreTopos, log_after}
+use Rattle.cluster_machine.specs.Step.{IsPlayableEvent}
+use Rattle.cluster_machine.specs.Tied.{AreTied, AreTopos, command_log}
 use Rattle.cluster_machine.proofs.LookupLemmas.{get-end, get-other}
 use Rattle.cluster_machine.proofs.TieLemmas.{journal_grows, on_journal}
 use Rattle.cluster_machine.proofs.StayLemmas.{by_other, hosts_kept, lanes_kept, legal_next, run_next}
@@ -53,29 +52,23 @@ version_within first (command ∷ log) =
     let raised = version_then (state_of first log) command (length log + 1) in
     elim (raises_or_not command) [ inl none ↦ omega (arith, before, raised, none) | inr one ↦ omega (arith, before, raised, one) ]
 
-pub version_fits : (opening : Opening) (history : History) (log : CommandLog) → log ≡ log_after opening history → length (log_of history) ≤ 10000 → (state_of log.first log.commands).version.0 < 2 ^ 64 - 1
+pub version_fits : (opening : Opening) (history : History) (log : CommandLog) → log ≡ command_log opening history → length (log_of history) ≤ 10000 → (state_of log.first log.commands).version.0 < 2 ^ 64 - 1
 version_fits opening history log is few =
     subst (λ (l : CommandLog). (state_of l.first l.commands).version.0 < 2 ^ 64 - 1) (sym is) (omega (arith, version_within (opening_state opening) (log_of history), few))
 
-pub count_fits : (opening : Opening) (history : History) (log : CommandLog) → log ≡ log_after opening history → length (log_of history) ≤ 10000 → length log.commands < 2 ^ 64 - 1
+pub count_fits : (opening : Opening) (history : History) (log : CommandLog) → log ≡ command_log opening history → length (log_of history) ≤ 10000 → length log.commands < 2 ^ 64 - 1
 count_fits opening history log is few =
     subst (λ (l : CommandLog). length l.commands < 2 ^ 64 - 1) (sym is) (omega (arith, few))
 
 -- ---- the log
 
--- the outcome is told alike
-same_outcome : (look count : ℕ) (broken : Option Rule) → outcome_in look count broken ≡ outcome_of look count broken
-same_outcome look count None = refl
-same_outcome look count (Some broken) = refl
-
 pub proposal_outputs : (opening : Opening) (history : History) (log : CommandLog) (topo : HostId) (command : Command) (look : ℕ)
-    → log ≡ log_after opening history
+    → log ≡ command_log opening history
     → look ≡ look_of history topo
-    → Proposed (outcome_in look (length log.commands) (rule_in log command)) ∷ [] ≡ outputs_of opening history (Propose topo command)
+    → Proposed (outcome_of look (length log.commands) (rule_in log command)) ∷ [] ≡ outputs_of opening history (Propose topo command)
 proposal_outputs opening history log topo command look is seen =
-    ap (λ (l : CommandLog). Proposed (outcome_in look (length l.commands) (rule_in l command)) ∷ []) is
-    ∙ ap (λ n. Proposed (outcome_in n (length (log_of history)) (rule (last_state opening history) command)) ∷ []) seen
-    ∙ ap (λ outcome. Proposed outcome ∷ []) (same_outcome (look_of history topo) (length (log_of history)) (rule (last_state opening history) command))
+    ap (λ (l : CommandLog). Proposed (outcome_of look (length l.commands) (rule_in l command)) ∷ []) is
+    ∙ ap (λ n. Proposed (outcome_of n (length (log_of history)) (rule (last_state opening history) command)) ∷ []) seen
 
 -- the commands after it
 abbrev commands_after : List Command → HostId → Command → ℕ → Option Rule → List Command
@@ -83,7 +76,7 @@ commands_after log topo command look broken =
     with_command (accepted_command (Propose topo command) (Proposed (outcome_of look (length log) broken) ∷ [])) log
 
 log_then : (first : Topology) (log : List Command) (topo : HostId) (command : Command) (look : ℕ) (broken : Option Rule)
-    → log_with (record { first = first; commands = log }) command (outcome_in look (length log) broken) ≡ record { first = first; commands = commands_after log topo command look broken }
+    → log_with (record { first = first; commands = log }) command (outcome_of look (length log) broken) ≡ record { first = first; commands = commands_after log topo command look broken }
 log_then first log topo command look None =
     elim (look == length log) as (λ b. log_with (record { first = first; commands = log }) command (if b then Accepted (length log + 1) else Conflict (record { 0 = length log })) ≡ record { first = first; commands = with_command (accepted_command (Propose topo command) (Proposed (if b then Accepted (length log + 1) else Conflict (record { 0 = length log })) ∷ [])) log }) [ true ↦ refl | false ↦ refl ]
 log_then first log topo command look (Some broken) =
@@ -182,7 +175,7 @@ first_after first log snapshots topo command look None are =
 -- ---- all of it
 
 -- the coordinators: one that proposes is as before
-topos_after : (journal : Journal) (topos : List TopoHolding) (topo : HostId) (command : Command) → IsPlayable journal (Propose topo command) → (AreTopos journal.opening (history_of journal) topos)
+topos_after : (journal : Journal) (topos : List TopoHolding) (topo : HostId) (command : Command) → IsPlayableEvent journal (Propose topo command) → (AreTopos journal.opening (history_of journal) topos)
     → (topo_view journal.opening (history_of journal) topo ≡ topo_view journal.opening (entry_of journal.opening (history_of journal) (Propose topo command) ∷ history_of journal) topo)
     → AreTopos journal.opening (entry_of journal.opening (history_of journal) (Propose topo command) ∷ history_of journal) topos
 topos_after journal topos topo command playable are same =
@@ -199,10 +192,10 @@ topos_after journal topos topo command playable are same =
 
 pub proposal_ties : (journal : Journal) (log : CommandLog) (snapshots : List Topology) (hosts : List (Holding Laid)) (lanes : List LaneHolding) (topos : List TopoHolding) (topo : HostId) (command : Command) (look : ℕ)
     → AreTied journal.opening (history_of journal) log snapshots hosts lanes topos
-    → IsPlayable journal (Propose topo command)
+    → IsPlayableEvent journal (Propose topo command)
     → look ≡ look_of (history_of journal) topo
     → AreTied journal.opening (entry_of journal.opening (history_of journal) (Propose topo command) ∷ history_of journal)
-    (log_with log command (outcome_in look (length log.commands) (rule_in log command)))
+    (log_with log command (outcome_of look (length log.commands) (rule_in log command)))
     (snapshots ++ option_to_list (next_first_state log look command)) hosts lanes topos
 proposal_ties journal log snapshots hosts lanes topos topo command look tied playable seen =
     let opening = journal.opening in
@@ -213,12 +206,12 @@ proposal_ties journal log snapshots hosts lanes topos topo command look tied pla
     let first = opening_state opening in
     let broken = rule (last_state opening history) command in
     let begins : AreFirst first (log_of history) snapshots = record { count = tied.snapshots_are.count; each = tied.snapshots_are.each } in
-    let ends = subst (λ n. AreFirst first (commands_after (log_of history) topo command (look_of history topo) broken) (snapshots ++ option_to_list (state_if_accepted (log_after opening history) n command broken))) (sym seen) (first_after first (log_of history) snapshots topo command (look_of history topo) broken begins) in
+    let ends = subst (λ n. AreFirst first (commands_after (log_of history) topo command (look_of history topo) broken) (snapshots ++ option_to_list (state_if_accepted (command_log opening history) n command broken))) (sym seen) (first_after first (log_of history) snapshots topo command (look_of history topo) broken begins) in
     let play = topos_play opening history event topo (ProposeInput command) tied.run.valid tied.run.legal refl playable.enabled refl in
-    subst (λ (l : CommandLog). AreTied opening (entry ∷ history) (log_with l command (outcome_in look (length l.commands) (rule_in l command))) (snapshots ++ option_to_list (next_first_state l look command)) hosts lanes topos) (sym tied.log_is)
+    subst (λ (l : CommandLog). AreTied opening (entry ∷ history) (log_with l command (outcome_of look (length l.commands) (rule_in l command))) (snapshots ++ option_to_list (next_first_state l look command)) hosts lanes topos) (sym tied.log_is)
     (record {
       run = run_next journal event tied.run playable;
-      log_is = ap (λ n. log_with (log_after opening history) command (outcome_in n (length (log_of history)) broken)) seen ∙ log_then first (log_of history) topo command (look_of history topo) broken;
+      log_is = ap (λ n. log_with (command_log opening history) command (outcome_of n (length (log_of history)) broken)) seen ∙ log_then first (log_of history) topo command (look_of history topo) broken;
       snapshots_are = record { count = ends.count; each = ends.each };
       hosts_are = hosts_kept opening history entry hosts legal (λ host. by_other (ByTopo topo) (ByHost host) event refl refl) tied.hosts_are;
       lanes_are = lanes_kept opening history entry lanes legal (λ lane. by_other (ByTopo topo) (ByLane lane) event refl refl) tied.lanes_are;
@@ -228,18 +221,18 @@ proposal_ties journal log snapshots hosts lanes topos topo command look tied pla
 -- what the turn leaves, whether it was played or had no memory
 pub proposal_after_turn : (journal : Journal) (log : CommandLog) (snapshots : List Topology) (hosts : List (Holding Laid)) (lanes : List LaneHolding) (topos : List TopoHolding) (entries : List Entry) (event : Event) (topo : HostId) (command : Command) (look : ℕ) (next : CommandLog) (firsts : List Topology) (result : Result (Unit {0}) NoMemory)
     → AreTied journal.opening (history_of journal) log snapshots hosts lanes topos
-    → IsPlayable journal event
+    → IsPlayableEvent journal event
     → event ≡ Propose topo command
     → (HasHost journal.opening topo → look ≡ look_of (history_of journal) topo)
-    → OnOk result (entries ≡ journal.entries ++ (record { event = Propose topo command; outputs = Proposed (outcome_in look (length log.commands) (rule_in log command)) ∷ [] }) ∷ [])
-    → OnOk result (next ≡ log_with log command (outcome_in look (length log.commands) (rule_in log command)))
+    → OnOk result (entries ≡ journal.entries ++ (record { event = Propose topo command; outputs = Proposed (outcome_of look (length log.commands) (rule_in log command)) ∷ [] }) ∷ [])
+    → OnOk result (next ≡ log_with log command (outcome_of look (length log.commands) (rule_in log command)))
     → OnOk result (firsts ≡ snapshots ++ option_to_list (next_first_state log look command))
     → OnErr result (entries ≡ journal.entries)
     → OnErr result (next ≡ log)
     → OnErr result (firsts ≡ snapshots)
     → AreTied journal.opening (reverse entries) next firsts hosts lanes topos
 proposal_after_turn journal log snapshots hosts lanes topos entries event topo command look next firsts (Ok u) tied playable is seen grows logs first err log_kept first_kept =
-    let play = subst (IsPlayable journal) is playable in
+    let play = subst (IsPlayableEvent journal) is playable in
     let looked = seen play.actor in
     let outs = proposal_outputs journal.opening (history_of journal) log topo command look tied.log_is looked in
     let grown = journal_grows journal entries (Propose topo command) _ (Ok u) outs grows in

@@ -20,14 +20,14 @@ use Rattle.lane_ties.proofs.LaneTies.{lane_restarts}
 use Rattle.run_store.specs.Tables.{Laid}
 use Rattle.topo_coord.specs.Topo.{TopoHolding, topo_restarted}
 use Rattle.topo_ties.proofs.TopoTies.{topos_restart}
-use Rattle.cluster_machine.specs.Step.{IsPlayable}
+use Rattle.cluster_machine.specs.Step.{IsPlayableEvent}
 use Rattle.cluster_machine.specs.Tied.{AreTied, lane_place}
 use Rattle.cluster_machine.proofs.TieLemmas.{host_after_turn, lane_after_turn, topo_after_turn}
 use Rattle.cluster_machine.proofs.TurnLemmas.{host_is, lane_is, topo_is}
 
 pub host_restarted_so : (journal : Journal) (log : CommandLog) (snapshots : List Topology) (hosts : List (Holding Laid)) (lanes : List LaneHolding) (topos : List TopoHolding) (entries : List Entry) (host : HostId) (old core : Holding Laid)
     → AreTied journal.opening (history_of journal) log snapshots hosts lanes topos
-    → IsPlayable journal (Restart (ByHost host))
+    → IsPlayableEvent journal (Restart (ByHost host))
     → old ≡ slice_index_or hosts host.0 old
     → entries ≡ journal.entries ++ (record { event = Restart (ByHost host); outputs = [] }) ∷ []
     → core.core ≡ restarted old.core
@@ -38,7 +38,7 @@ host_restarted_so journal log snapshots hosts lanes topos entries host old core 
 
 pub lane_restarted_so : (journal : Journal) (log : CommandLog) (snapshots : List Topology) (hosts : List (Holding Laid)) (lanes : List LaneHolding) (topos : List TopoHolding) (entries : List Entry) (lane : LaneId) (old core : LaneHolding)
     → AreTied journal.opening (history_of journal) log snapshots hosts lanes topos
-    → IsPlayable journal (Restart (ByLane lane))
+    → IsPlayableEvent journal (Restart (ByLane lane))
     → old ≡ slice_index_or lanes (lane_place journal.opening.lanes lane) old
     → entries ≡ journal.entries ++ (record { event = Restart (ByLane lane); outputs = [] }) ∷ []
     → core.core ≡ lane_restarted old.core
@@ -49,7 +49,7 @@ lane_restarted_so journal log snapshots hosts lanes topos entries lane old core 
 
 pub topo_restarted_so : (journal : Journal) (log : CommandLog) (snapshots : List Topology) (hosts : List (Holding Laid)) (lanes : List LaneHolding) (topos : List TopoHolding) (entries : List Entry) (topo : HostId) (old core : TopoHolding)
     → AreTied journal.opening (history_of journal) log snapshots hosts lanes topos
-    → IsPlayable journal (Restart (ByTopo topo))
+    → IsPlayableEvent journal (Restart (ByTopo topo))
     → old ≡ slice_index_or topos topo.0 old
     → entries ≡ journal.entries ++ (record { event = Restart (ByTopo topo); outputs = [] }) ∷ []
     → core.core ≡ topo_restarted old.core

@@ -40,12 +40,12 @@ use Rattle.lane_ties.proofs.LaneTies.{lane_inputs, lane_plays}
 use Rattle.run_store.specs.Tables.{Laid}
 use Rattle.topo_coord.specs.Topo.{TopoHolding, TopoView, topo_after, topo_out, topo_rule}
 use Rattle.topo_coord.specs.declared.data.TopoInput.{TopoInput}
-use Rattle.topo_ties.specs.TopoTies.{heard_input, proposed, topo_input, topo_outputs, topo_view}
+use Rattle.topo_ties.specs.TopoTies.{heard_input, proposal_outcome, topo_input, topo_outputs, topo_view}
 use Rattle.topo_ties.proofs.TopoTies.{topos_have_inputs, topos_play}
-use Rattle.cluster_machine.specs.Inputs.{host_input_by, is_proposal, lane_input_by, snapshot_in, topo_input_by}
-use Rattle.cluster_machine.specs.Kinds.{kind_of}
-use Rattle.cluster_machine.specs.Step.{IsPlayable}
-use Rattle.cluster_machine.specs.Tied.{AreSnapshots, AreTied, lane_place, log_after}
+use Rattle.cluster_machine.specs.Inputs.{host_input_by, proposes_input, lane_input_by, snapshot_in, topo_input_by}
+use Rattle.cluster_machine.specs.Kinds.{event_kind}
+use Rattle.cluster_machine.specs.Step.{IsPlayableEvent}
+use Rattle.cluster_machine.specs.Tied.{AreSnapshots, AreTied, lane_place, command_log}
 use Rattle.cluster_machine.specs.declared.kinds.EventKind.TheVariants.{OfHost, OfLane, OfTopo}
 use Rattle.cluster_machine.proofs.KindLemmas.{host_goes_on, host_named, lane_goes_on, of_host, of_lane, of_topo, topo_goes_on}
 use Rattle.cluster_machine.proofs.PlaceLemmas.{place_within}
@@ -54,7 +54,7 @@ use Rattle.cluster_machine.proofs.TieLemmas.{part_there}
 -- ---- hosts
 
 -- what the code makes of an event is its input
-host_given : (history : History) (event : Event) (host : HostId) → kind_of event ≡ OfHost host → host_input_by (log_of history) (applied_count history host) history event ≡ host_input history event
+host_given : (history : History) (event : Event) (host : HostId) → event_kind event ≡ OfHost host → host_input_by (log_of history) (applied_count history host) history event ≡ host_input history event
 host_given history (Apply by) host e =
     let is : by ≡ host = ap (host_named host) e in
     ap (λ h. option_map ApplyInput (command_at (log_of history) (applied_count history h + 1))) (sym is)
@@ -69,7 +69,7 @@ pub host_is : (opening : Opening) (history : History) (log : CommandLog) (snapsh
 host_is opening history log snapshots hosts lanes topos host core tied there here =
     ap (λ (h : Holding Laid). h.core) here ∙ tied.hosts_are.each host core there
 
-pub host_there : (journal : Journal) (event : Event) (host : HostId) → IsPlayable journal event → kind_of event ≡ OfHost host → HasHost journal.opening host
+pub host_there : (journal : Journal) (event : Event) (host : HostId) → IsPlayableEvent journal event → event_kind event ≡ OfHost host → HasHost journal.opening host
 host_there journal event host playable kind = part_there journal event playable (of_host event host kind).actor_is
 
 -- how many commands it has applied fits
@@ -92,7 +92,7 @@ applied_is opening history log snapshots hosts lanes topos host core applied tie
 -- the input by the log and the count of the host is that of the event
 host_input_is : (opening : Opening) (history : History) (log : CommandLog) (snapshots : List Topology) (hosts : List (Holding Laid)) (lanes : List LaneHolding) (topos : List TopoHolding) (event : Event) (host : HostId) (applied : ℕ)
     → AreTied opening history log snapshots hosts lanes topos
-    → kind_of event ≡ OfHost host
+    → event_kind event ≡ OfHost host
     → applied ≡ applied_count history host
     → host_input_by log.commands applied history event ≡ host_input history event
 host_input_is opening history log snapshots hosts lanes topos event host applied tied kind is =
@@ -102,8 +102,8 @@ host_input_is opening history log snapshots hosts lanes topos event host applied
 
 pub host_has_input : (journal : Journal) (log : CommandLog) (snapshots : List Topology) (hosts : List (Holding Laid)) (lanes : List LaneHolding) (topos : List TopoHolding) (event : Event) (host : HostId) (applied : ℕ)
     → AreTied journal.opening (history_of journal) log snapshots hosts lanes topos
-    → IsPlayable journal event
-    → kind_of event ≡ OfHost host
+    → IsPlayableEvent journal event
+    → event_kind event ≡ OfHost host
     → applied ≡ applied_count (history_of journal) host
     → host_input_by log.commands applied (history_of journal) event ≡ None
     → ⊥
@@ -121,8 +121,8 @@ pub record IsHostTurn (opening : Opening) (history : History) (host : HostId) (e
 
 pub host_turn : (journal : Journal) (log : CommandLog) (snapshots : List Topology) (hosts : List (Holding Laid)) (lanes : List LaneHolding) (topos : List TopoHolding) (event : Event) (host : HostId) (applied : ℕ) (core : Holding Laid) (input : HostInput)
     → AreTied journal.opening (history_of journal) log snapshots hosts lanes topos
-    → IsPlayable journal event
-    → kind_of event ≡ OfHost host
+    → IsPlayableEvent journal event
+    → event_kind event ≡ OfHost host
     → applied ≡ applied_count (history_of journal) host
     → core ≡ slice_index_or hosts host.0 core
     → host_input_by log.commands applied (history_of journal) event ≡ Some input
@@ -144,14 +144,14 @@ snapshot_is opening history snapshots version are from =
     let number : version.0 - 1 + 1 ≡ version.0 = omega (arith, from) in
     rw not_zero (are.each (version.0 - 1) ∙ ap (λ n. state_of_version opening history (let v : Version = record { 0 = n } in v)) number)
 
-lane_given : (opening : Opening) (history : History) (snapshots : List Topology) (event : Event) (lane : LaneId) → AreSnapshots opening history snapshots → broken_rule opening history event ≡ None → kind_of event ≡ OfLane lane → lane_input_by snapshots history event ≡ lane_input opening history event
+lane_given : (opening : Opening) (history : History) (snapshots : List Topology) (event : Event) (lane : LaneId) → AreSnapshots opening history snapshots → broken_rule opening history event ≡ None → event_kind event ≡ OfLane lane → lane_input_by snapshots history event ≡ lane_input opening history event
 lane_given opening history snapshots (Begin by operation version) lane are enabled e =
     let begun = begins_well version (floor_of history by.host) (version_of opening history by.host) (live_count history by) enabled in
     let from : 1 ≤ version.0 = omega (arith, begun.above, floor_from_first history by.host) in
     ap (option_map (begin_input operation)) (snapshot_is opening history snapshots version are from)
 lane_given opening history snapshots event lane are enabled e = refl
 
-pub lane_there : (journal : Journal) (event : Event) (lane : LaneId) → IsPlayable journal event → kind_of event ≡ OfLane lane → HasLane journal.opening lane
+pub lane_there : (journal : Journal) (event : Event) (lane : LaneId) → IsPlayableEvent journal event → event_kind event ≡ OfLane lane → HasLane journal.opening lane
 lane_there journal event lane playable kind = part_there journal event playable (of_lane event lane kind).actor_is
 
 -- the lane has a place
@@ -172,8 +172,8 @@ lane_is opening history log snapshots hosts lanes topos lane core tied there her
 
 pub lane_has_input : (journal : Journal) (log : CommandLog) (snapshots : List Topology) (hosts : List (Holding Laid)) (lanes : List LaneHolding) (topos : List TopoHolding) (event : Event) (lane : LaneId)
     → AreTied journal.opening (history_of journal) log snapshots hosts lanes topos
-    → IsPlayable journal event
-    → kind_of event ≡ OfLane lane
+    → IsPlayableEvent journal event
+    → event_kind event ≡ OfLane lane
     → lane_input_by snapshots (history_of journal) event ≡ None
     → ⊥
 lane_has_input journal log snapshots hosts lanes topos event lane tied playable kind none =
@@ -189,8 +189,8 @@ pub record IsLaneTurn (opening : Opening) (history : History) (lane : LaneId) (e
 
 pub lane_turn : (journal : Journal) (log : CommandLog) (snapshots : List Topology) (hosts : List (Holding Laid)) (lanes : List LaneHolding) (topos : List TopoHolding) (event : Event) (lane : LaneId) (core : LaneHolding) (input : LaneInput)
     → AreTied journal.opening (history_of journal) log snapshots hosts lanes topos
-    → IsPlayable journal event
-    → kind_of event ≡ OfLane lane
+    → IsPlayableEvent journal event
+    → event_kind event ≡ OfLane lane
     → core ≡ slice_index_or lanes (lane_place journal.opening.lanes lane) core
     → lane_input_by snapshots (history_of journal) event ≡ Some input
     → IsLaneTurn journal.opening (history_of journal) lane event core.core input
@@ -206,31 +206,31 @@ lane_turn journal log snapshots hosts lanes topos event lane core input tied pla
 
 -- ---- coordinators
 
-topo_given : (opening : Opening) (history : History) (event : Event) (topo : HostId) → kind_of event ≡ OfTopo topo → topo_input_by (log_after opening history) history event ≡ topo_input opening history event
+topo_given : (opening : Opening) (history : History) (event : Event) (topo : HostId) → event_kind event ≡ OfTopo topo → topo_input_by (command_log opening history) history event ≡ topo_input opening history event
 topo_given opening history (Propose by command) topo e = cc e
 topo_given opening history event topo e = refl
 
-topo_input_is : (opening : Opening) (history : History) (log : CommandLog) (event : Event) (topo : HostId) → log ≡ log_after opening history → kind_of event ≡ OfTopo topo → topo_input_by log history event ≡ topo_input opening history event
+topo_input_is : (opening : Opening) (history : History) (log : CommandLog) (event : Event) (topo : HostId) → log ≡ command_log opening history → event_kind event ≡ OfTopo topo → topo_input_by log history event ≡ topo_input opening history event
 topo_input_is opening history log event topo is kind =
     ap (λ (l : CommandLog). topo_input_by l history event) is ∙ topo_given opening history event topo kind
 
 -- it is no proposal
 abbrev proposes_not : Option TopoInput → Type 0
 proposes_not None = true ≡ true
-proposes_not (Some input) = is_proposal input ≡ false
+proposes_not (Some input) = proposes_input input ≡ false
 
-heard_no_proposal : (message : Option Message) (input : TopoInput) → heard_input message ≡ Some input → is_proposal input ≡ false
+heard_no_proposal : (message : Option Message) (input : TopoInput) → heard_input message ≡ Some input → proposes_input input ≡ false
 heard_no_proposal (Some (FactSent fact)) input e = subst proposes_not e refl
 heard_no_proposal (Some (NotMine from to session)) input e = subst proposes_not e refl
 heard_no_proposal message input e = cc e
 
-pub no_proposal : (log : CommandLog) (history : History) (event : Event) (input : TopoInput) → topo_input_by log history event ≡ Some input → is_proposal input ≡ false
+pub no_proposal : (log : CommandLog) (history : History) (event : Event) (input : TopoInput) → topo_input_by log history event ≡ Some input → proposes_input input ≡ false
 no_proposal log history (Look topo) input e = subst proposes_not e refl
 no_proposal log history (Ask topo host what) input e = subst proposes_not e refl
 no_proposal log history (Hear topo at) input e = heard_no_proposal (message_at history at) input e
 no_proposal log history event input e = cc e
 
-pub topo_there : (journal : Journal) (event : Event) (topo : HostId) → IsPlayable journal event → kind_of event ≡ OfTopo topo → HasHost journal.opening topo
+pub topo_there : (journal : Journal) (event : Event) (topo : HostId) → IsPlayableEvent journal event → event_kind event ≡ OfTopo topo → HasHost journal.opening topo
 topo_there journal event topo playable kind = part_there journal event playable (of_topo event topo kind).actor_is
 
 pub topo_is : (opening : Opening) (history : History) (log : CommandLog) (snapshots : List Topology) (hosts : List (Holding Laid)) (lanes : List LaneHolding) (topos : List TopoHolding) (topo : HostId) (core : TopoHolding)
@@ -243,8 +243,8 @@ topo_is opening history log snapshots hosts lanes topos topo core tied there her
 
 pub topo_has_input : (journal : Journal) (log : CommandLog) (snapshots : List Topology) (hosts : List (Holding Laid)) (lanes : List LaneHolding) (topos : List TopoHolding) (event : Event) (topo : HostId)
     → AreTied journal.opening (history_of journal) log snapshots hosts lanes topos
-    → IsPlayable journal event
-    → kind_of event ≡ OfTopo topo
+    → IsPlayableEvent journal event
+    → event_kind event ≡ OfTopo topo
     → topo_input_by log (history_of journal) event ≡ None
     → ⊥
 topo_has_input journal log snapshots hosts lanes topos event topo tied playable kind none =
@@ -254,13 +254,13 @@ topo_has_input journal log snapshots hosts lanes topos event topo tied playable 
 
 pub record IsTopoTurn (opening : Opening) (history : History) (topo : HostId) (event : Event) (core : TopoView) (input : TopoInput) : Type 0 where
   pub fits : topo_rule core input ≡ None
-  pub outputs : topo_outputs (proposed opening history) (topo_out core input) ≡ outputs_of opening history event
+  pub outputs : topo_outputs (proposal_outcome opening history) (topo_out core input) ≡ outputs_of opening history event
   pub after : topo_after core input ≡ topo_view opening (entry_of opening history event ∷ history) topo
 
 pub topo_turn : (journal : Journal) (log : CommandLog) (snapshots : List Topology) (hosts : List (Holding Laid)) (lanes : List LaneHolding) (topos : List TopoHolding) (event : Event) (topo : HostId) (core : TopoHolding) (input : TopoInput)
     → AreTied journal.opening (history_of journal) log snapshots hosts lanes topos
-    → IsPlayable journal event
-    → kind_of event ≡ OfTopo topo
+    → IsPlayableEvent journal event
+    → event_kind event ≡ OfTopo topo
     → core ≡ slice_index_or topos topo.0 core
     → topo_input_by log (history_of journal) event ≡ Some input
     → IsTopoTurn journal.opening (history_of journal) topo event core.core input
@@ -275,6 +275,6 @@ topo_turn journal log snapshots hosts lanes topos event topo core input tied pla
 -- the entry, by what becomes of a proposal in this history
 pub topo_on_ok : (opening : Opening) (history : History) (old new : List Entry) (event : Event) (core : TopoView) (input : TopoInput) (result : Result (Unit {0}) NoMemory)
     → OnOk result ((outcome : ℕ → Command → Appended Rule) → new ≡ old ++ (record { event = event; outputs = topo_outputs outcome (topo_out core input) }) ∷ [])
-    → OnOk result (new ≡ old ++ (record { event = event; outputs = topo_outputs (proposed opening history) (topo_out core input) }) ∷ [])
-topo_on_ok opening history old new event core input (Ok u) grows = grows (proposed opening history)
+    → OnOk result (new ≡ old ++ (record { event = event; outputs = topo_outputs (proposal_outcome opening history) (topo_out core input) }) ∷ [])
+topo_on_ok opening history old new event core input (Ok u) grows = grows (proposal_outcome opening history)
 topo_on_ok opening history old new event core input (Err e) grows = tt

@@ -24,8 +24,8 @@ abbrev pub lane_place : ℕ → LaneId → ℕ
 lane_place lanes_of_host lane = lane.host.0 * lanes_of_host + lane.lane
 
 -- the commands of the log, over the opening's state
-abbrev pub log_after : Opening → History → CommandLog
-log_after opening history = record { first = opening_state opening; commands = log_of history }
+abbrev pub command_log : Opening → History → CommandLog
+command_log opening history = record { first = opening_state opening; commands = log_of history }
 
 -- at each place, from 0, the first state of the version above it, up to the version of the log
 pub record AreSnapshots (opening : Opening) (history : History) (snapshots : List Topology) : Type 0 where
@@ -49,7 +49,7 @@ pub record AreTopos (opening : Opening) (history : History) (topos : List TopoHo
       (slice_index_or topos host.0 none).core ≡ topo_view opening history host
 
 -- the opening is valid and the history legal and within the limits
-pub record IsRun (opening : Opening) (history : History) : Type 0 where
+pub record IsBoundedRun (opening : Opening) (history : History) : Type 0 where
   pub valid : IsValidOpening opening
   pub legal : IsLegalHistory opening history
   pub entries : length history ≤ most_entries
@@ -58,8 +58,8 @@ pub record IsRun (opening : Opening) (history : History) : Type 0 where
 -- what the machine keeps is what its journal says
 pub record AreTied (opening : Opening) (history : History) (log : CommandLog) (snapshots : List Topology)
     (hosts : List (Holding Laid)) (lanes : List LaneHolding) (topos : List TopoHolding) : Type 0 where
-  pub run : IsRun opening history
-  pub log_is : log ≡ log_after opening history
+  pub run : IsBoundedRun opening history
+  pub log_is : log ≡ command_log opening history
   pub snapshots_are : AreSnapshots opening history snapshots
   pub hosts_are : AreHosts opening history hosts
   pub lanes_are : AreLanes opening history lanes

@@ -6,12 +6,12 @@ mod cluster;
 mod inputs;
 mod kinds;
 mod lookup;
-pub mod machine;
+mod machine;
 mod outputs;
 mod playing;
 mod proposing;
 mod rules;
-pub mod step;
+mod step;
 mod turns;
 
 pub use cluster_history::{

@@ -60,8 +60,8 @@ impl Machine {
     ghost use Rattle.host_ties.specs.HostTies.{host_view};
     ghost use Rattle.lane_ties.specs.LaneTies.{lane_view};
     ghost use Rattle.topo_ties.specs.TopoTies.{topo_view};
-    ghost use Rattle.cluster_machine.specs.Step.{IsPlayable, IsRuling, IsStep, is_accepted, limit_after};
-    ghost use Rattle.cluster_machine.specs.Tied.{log_after};
+    ghost use Rattle.cluster_machine.specs.Step.{IsPlayableEvent, IsRuling, IsStep, is_accepted, limit_after};
+    ghost use Rattle.cluster_machine.specs.Tied.{command_log};
 
     /// A machine that nothing has happened to.
     pub fn new(alloc: Global, opening: Opening) -> Result<Machine, NoMemory>
@@ -227,7 +227,7 @@ impl Machine {
 
     /// Plays an event that may be played. `NoMemory` leaves the journal as it was.
     fn play(&mut self, event: Event) -> Result<(), NoMemory>
-        requires { IsPlayable self.old event }
+        requires { IsPlayableEvent self.old event }
         ensures ok { OnOk result (self.new ≡ with_event self.old event) }
         ensures err { OnErr result (self.new ≡ self.old) }
     {
@@ -257,7 +257,7 @@ impl Machine {
 
     /// Lends the log.
     pub fn log(&self) -> &Log
-        ensures { result.now ≡ log_after self.now.opening (history_of self.now) }
+        ensures { result.now ≡ command_log self.now.opening (history_of self.now) }
     {
         &self.cluster.log
     }

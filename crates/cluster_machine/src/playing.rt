@@ -9,7 +9,7 @@ ghost use Rattle.lane_core.specs.Lane.{IsFor, lane_after, lane_out, lane_rule};
 ghost use Rattle.lane_ties.specs.LaneTies.{lane_outputs};
 ghost use Rattle.topo_coord.specs.Topo.{topo_after, topo_out, topo_rule};
 ghost use Rattle.topo_ties.specs.TopoTies.{topo_outputs};
-ghost use Rattle.cluster_machine.specs.Inputs.{is_proposal};
+ghost use Rattle.cluster_machine.specs.Inputs.{proposes_input};
 
 use crate::outputs::{add, add_host_outputs, add_lane_outputs, add_topo_outputs, most_outputs};
 use base_ids::{HostId, Items, NoMemory};
@@ -130,7 +130,7 @@ fn topo_entry(
     input: TopoInput,
 ) -> Result<(), NoMemory>
     requires rule { topo_rule core.old.core input ≡ None }
-    requires other { is_proposal input ≡ false }
+    requires other { proposes_input input ≡ false }
     ensures ok { OnOk result ((outcome : ℕ → Command → Appended Rule) → entries.new.items ≡ entries.old.items
         ++ record { event = event; outputs = topo_outputs outcome (topo_out core.old.core input) } ∷ []) }
     ensures core { OnOk result (core.new.core ≡ topo_after core.old.core input) }
@@ -157,7 +157,7 @@ pub(crate) fn play_topo(
     input: TopoInput,
 ) -> Result<(), NoMemory>
     requires rule { topo_rule core.old.core input ≡ None }
-    requires other { is_proposal input ≡ false }
+    requires other { proposes_input input ≡ false }
     ensures ok { OnOk result ((outcome : ℕ → Command → Appended Rule) → entries.new ≡ entries.old
         ++ record { event = event; outputs = topo_outputs outcome (topo_out core.old.core input) } ∷ []) }
     ensures core { OnOk result (core.new.core ≡ topo_after core.old.core input) }

@@ -18,49 +18,6 @@ use std::alloc::Global;
 use std::mem;
 use topo_state::{Command, TopoState};
 
-/// An equal command.
-fn clone_of(alloc: Global, command: &Command) -> Result<Command, NoMemory>
-    ensures { IfOk result (λ copy. copy ≡ command.now) }
-{
-    Ok(match command {
-        Command::CreateTable {
-            table,
-            log2,
-            replicas,
-        } => Command::CreateTable {
-            table: *table,
-            log2: *log2,
-            replicas: replicas.clone_in(alloc)?,
-        },
-        Command::Start {
-            table,
-            tablet,
-            leaving,
-            pending,
-        } => Command::Start {
-            table: *table,
-            tablet: *tablet,
-            leaving: *leaving,
-            pending: *pending,
-        },
-        Command::Advance { session, to } => Command::Advance {
-            session: *session,
-            to: *to,
-        },
-        Command::SetFence(version) => Command::SetFence(*version),
-        Command::Join(host) => Command::Join(*host),
-        Command::Leave(host) => Command::Leave(*host),
-        Command::Resize { table, kind } => Command::Resize {
-            table: *table,
-            kind: *kind,
-        },
-        Command::FinalizeResize { table, seq } => Command::FinalizeResize {
-            table: *table,
-            seq: *seq,
-        },
-    })
-}
-
 /// Whether the log would accept the command of a proposer that has read the state of this number.
 pub(crate) fn accepts(log: &Log, read: u64, command: &Command) -> bool
     requires { IsFit command.now }
@@ -154,7 +111,7 @@ fn propose_entry(
     snapshots.reserve(1)?;
     let mut outputs = Vec::with_capacity(alloc, 1)?;
     let next = next_snapshot(alloc, log, read, &command)?;
-    let copy = clone_of(alloc, &command)?;
+    let copy = command.clone_in(alloc)?;
     let shared = Shared::new(alloc, copy)?;
     let outcome = log.append(alloc, StateId(read), shared)?;
     add_some(snapshots, next);

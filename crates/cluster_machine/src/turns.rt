@@ -2,8 +2,8 @@
 ghost use Rattle.std.specs.Prelude.{◌≡◌, OnErr, OnOk};
 ghost use Rattle.cluster_history.specs.Legal.{history_of, with_event};
 ghost use Rattle.cluster_history.specs.declared.data.Event.{Event};
-ghost use Rattle.cluster_machine.specs.Kinds.{kind_of};
-ghost use Rattle.cluster_machine.specs.Step.{IsPlayable};
+ghost use Rattle.cluster_machine.specs.Kinds.{event_kind};
+ghost use Rattle.cluster_machine.specs.Step.{IsPlayableEvent};
 ghost use Rattle.cluster_machine.specs.Tied.{IsTied, lane_place};
 ghost use Rattle.cluster_machine.specs.declared.kinds.EventKind.{EventKind};
 
@@ -25,8 +25,8 @@ fn host_turn(
     event: Event,
 ) -> Result<(), NoMemory>
     requires tied { IsTied journal.old.opening (history_of journal.old) cluster.old }
-    requires playable { IsPlayable journal.old event }
-    requires kind { kind_of event ≡ EventKind.OfHost host }
+    requires playable { IsPlayableEvent journal.old event }
+    requires kind { event_kind event ≡ EventKind.OfHost host }
     ensures ok { OnOk result (journal.new ≡ with_event journal.old event) }
     ensures err { OnErr result (journal.new ≡ journal.old) }
     ensures tied { IsTied journal.new.opening (history_of journal.new) cluster.new }
@@ -50,8 +50,8 @@ fn lane_turn(
     event: Event,
 ) -> Result<(), NoMemory>
     requires tied { IsTied journal.old.opening (history_of journal.old) cluster.old }
-    requires playable { IsPlayable journal.old event }
-    requires kind { kind_of event ≡ EventKind.OfLane lane }
+    requires playable { IsPlayableEvent journal.old event }
+    requires kind { event_kind event ≡ EventKind.OfLane lane }
     ensures ok { OnOk result (journal.new ≡ with_event journal.old event) }
     ensures err { OnErr result (journal.new ≡ journal.old) }
     ensures tied { IsTied journal.new.opening (history_of journal.new) cluster.new }
@@ -74,8 +74,8 @@ fn topo_turn(
     event: Event,
 ) -> Result<(), NoMemory>
     requires tied { IsTied journal.old.opening (history_of journal.old) cluster.old }
-    requires playable { IsPlayable journal.old event }
-    requires kind { kind_of event ≡ EventKind.OfTopo topo }
+    requires playable { IsPlayableEvent journal.old event }
+    requires kind { event_kind event ≡ EventKind.OfTopo topo }
     ensures ok { OnOk result (journal.new ≡ with_event journal.old event) }
     ensures err { OnErr result (journal.new ≡ journal.old) }
     ensures tied { IsTied journal.new.opening (history_of journal.new) cluster.new }
@@ -98,8 +98,8 @@ fn proposal_turn(
     event: Event,
 ) -> Result<(), NoMemory>
     requires tied { IsTied journal.old.opening (history_of journal.old) cluster.old }
-    requires playable { IsPlayable journal.old event }
-    requires kind { kind_of event ≡ EventKind.Proposal topo }
+    requires playable { IsPlayableEvent journal.old event }
+    requires kind { event_kind event ≡ EventKind.Proposal topo }
     ensures ok { OnOk result (journal.new ≡ with_event journal.old event) }
     ensures err { OnErr result (journal.new ≡ journal.old) }
     ensures tied { IsTied journal.new.opening (history_of journal.new) cluster.new }
@@ -127,7 +127,7 @@ fn restart_turn(
     actor: Actor,
 ) -> Result<(), NoMemory>
     requires tied { IsTied journal.old.opening (history_of journal.old) cluster.old }
-    requires playable { IsPlayable journal.old (Event.Restart actor) }
+    requires playable { IsPlayableEvent journal.old (Event.Restart actor) }
     ensures ok { OnOk result (journal.new ≡ with_event journal.old (Event.Restart actor)) }
     ensures err { OnErr result (journal.new ≡ journal.old) }
     ensures tied { IsTied journal.new.opening (history_of journal.new) cluster.new }
@@ -156,7 +156,7 @@ pub(crate) fn play(
     event: Event,
 ) -> Result<(), NoMemory>
     requires tied { IsTied journal.old.opening (history_of journal.old) cluster.old }
-    requires playable { IsPlayable journal.old event }
+    requires playable { IsPlayableEvent journal.old event }
     ensures ok { OnOk result (journal.new ≡ with_event journal.old event) }
     ensures err { OnErr result (journal.new ≡ journal.old) }
     ensures tied { IsTied journal.new.opening (history_of journal.new) cluster.new }

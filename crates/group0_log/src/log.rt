@@ -26,7 +26,8 @@ impl Model for Log {
 
     ghost view = { λ l. record { first = l.opening; commands = reverse l.entries.items } };
 
-    ghost invariant = { λ l. (l.state ≡ state_of l.opening (reverse l.entries.items)) × IsLegalLog l.opening (reverse l.entries.items) × AreBelowEnd l.opening (reverse l.entries.items) };
+    ghost invariant = { λ l. (l.state ≡ state_of l.opening (reverse l.entries.items)) ×
+        IsLegalLog l.opening (reverse l.entries.items) × AreBelowEnd l.opening (reverse l.entries.items) };
 }
 
 impl Log {
@@ -74,7 +75,8 @@ impl Log {
     ) -> Result<Appended<Rule>, NoMemory>
         requires fit { IsFit command }
         requires version { (state_of self.old.first self.old.commands).version.0 < 2 ^ 64 - 1 }
-        ensures outcome { IfOk result (λ appended. appended ≡ outcome_of read.0 (length self.old.commands) (rule (state_of self.old.first self.old.commands) command)) }
+        ensures outcome { IfOk result (λ appended. appended ≡ outcome_of read.0 (length self.old.commands)
+            (rule (state_of self.old.first self.old.commands) command)) }
         ensures log { IfOk result (λ appended. self.new ≡ log_after self.old command appended) }
         ensures err { OnErr result (self.new ≡ self.old) }
     {

@@ -10,7 +10,7 @@ use Rattle.base_ids.specs.declared.ids.OpId.{OpId}
 use Rattle.base_ids.specs.declared.ids.Version.{Version}
 use Rattle.cluster_history.specs.History.{History, is_restart_of}
 use Rattle.cluster_history.specs.Legal.{entry_of}
-use Rattle.cluster_history.specs.Requests.{Request, answers_of, begins, begun_count, is_begin_of, is_live, next_op, replies_to, request_at, request_on, started_request, way_of}
+use Rattle.cluster_history.specs.Requests.{Request, answers_of, begins_request, begun_count, is_begin_of, is_live, next_op, replies_to, request_at, request_on, started_request, way_of}
 use Rattle.cluster_history.specs.declared.data.Entry.{Entry}
 use Rattle.cluster_history.specs.declared.data.Event.{Event}
 use Rattle.cluster_history.specs.declared.data.Event.TheVariants.{Begin}
@@ -56,7 +56,7 @@ request_begun opening history by op request there =
     ]
 
 -- no event begins it again
-pub begins-again : (history : History) (event : Event) (by : LaneId) (op : OpId) → op.0 ≤ begun_count history by → begins history event by op ≡ false
+pub begins-again : (history : History) (event : Event) (by : LaneId) (op : OpId) → op.0 ≤ begun_count history by → begins_request history event by op ≡ false
 begins-again history event by op below =
     and_false (is_begin_of by event) (op.0 == begun_count history by + 1) (other op.0 (begun_count history by) below)
   where
@@ -79,7 +79,7 @@ pub record WasLive (history : History) (entry : Entry) (by : LaneId) (op : OpId)
 
 pub live_before : (history : History) (entry : Entry) (by : LaneId) (op : OpId) → op.0 ≤ begun_count history by → is_live (entry ∷ history) by op ≡ true → WasLive history entry by op
 live_before history entry by op below live =
-    let all = step (begins history entry.event by op) (is_live history by op) (replies_to entry by op) (is_restart_of (ByLane by) entry.event) (begins-again history entry.event by op below) live in
+    let all = step (begins_request history entry.event by op) (is_live history by op) (replies_to entry by op) (is_restart_of (ByLane by) entry.event) (begins-again history entry.event by op below) live in
     record { live = all.0; unreplied = all.1; kept = all.2 }
   where
     step : (begin live reply restart : Bool) → begin ≡ false → ((begin || live) && not (reply || restart)) ≡ true → (live ≡ true) × (reply ≡ false) × (restart ≡ false)
@@ -90,7 +90,7 @@ live_before history entry by op below live =
     step false false reply restart b e = cc e
 
 -- the request that a begin begins
-pub begins-next : (history : History) (by : LaneId) (event : Event) → is_begin_of by event ≡ true → begins history event by (next_op history by) ≡ true
+pub begins-next : (history : History) (by : LaneId) (event : Event) → is_begin_of by event ≡ true → begins_request history event by (next_op history by) ≡ true
 begins-next history by event e = and_true (is_begin_of by event) (begun_count history by + 1 == begun_count history by + 1) e (eq-eqb (begun_count history by + 1) (begun_count history by + 1) refl)
 
 -- what a begin makes of its request

@@ -13,16 +13,16 @@ use Rattle.cluster_history.proofs.WithinLemmas.{applied_within}
 use Rattle.cluster_history.specs.History.{History}
 use Rattle.cluster_history.specs.Legal.{IsFitEvent, IsLegalHistory, broken_rule, entry_of}
 use Rattle.cluster_history.specs.Openings.{opening_state}
-use Rattle.cluster_history.specs.Outputs.{judged, propose_outputs}
+use Rattle.cluster_history.specs.Outputs.{propose_outputs}
 use Rattle.cluster_history.specs.Requests.{has_live_below}
-use Rattle.cluster_history.specs.Rules.{first_broken, quiet_rule}
+use Rattle.cluster_history.specs.Rules.{first_broken_rule, quiet_rule}
 use Rattle.cluster_history.specs.Topology.{accepted_command, applied_count, floor_of, greater_version, is_apply_of, last_state, log_of, look_of, raised_floor, version_of, with_command}
 use Rattle.cluster_history.specs.declared.data.Entry.{Entry}
 use Rattle.cluster_history.specs.declared.data.Event.{Event}
 use Rattle.cluster_history.specs.declared.data.Event.TheVariants.{Propose, Quiet}
 use Rattle.cluster_history.specs.declared.data.Opening.{Opening}
 use Rattle.cluster_history.specs.declared.data.Output.TheVariants.{Proposed}
-use Rattle.group0_log.specs.Log.{IsLegalLog, state_of}
+use Rattle.group0_log.specs.Log.{IsLegalLog, state_of, judged}
 use Rattle.topo_state.specs.Rules.{IsFit, rule}
 use Rattle.topo_state.specs.State.{Topology}
 use Rattle.topo_state.specs.declared.command.Command.{Command}
@@ -96,7 +96,7 @@ nothing_falls opening history entry host legal =
 
 not_ahead : (version newest : Version) (live_below : Bool) → quiet_rule version newest live_below ≡ None → version.0 ≤ newest.0
 not_ahead version newest live_below e =
-    (elim (nat_lt newest.0 version.0) as (λ b. nat_lt newest.0 version.0 ≡ b → (if b then Some VersionAhead else first_broken ((live_below, LiveBelow) ∷ [])) ≡ None → version.0 ≤ newest.0) [
+    (elim (nat_lt newest.0 version.0) as (λ b. nat_lt newest.0 version.0 ≡ b → (if b then Some VersionAhead else first_broken_rule ((live_below, LiveBelow) ∷ [])) ≡ None → version.0 ≤ newest.0) [
       | true ↦ λ less f. cc f
       | false ↦ λ less f. grind (arith, nat_tests)
     ]) refl e

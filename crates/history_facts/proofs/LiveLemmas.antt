@@ -13,7 +13,7 @@ use Rattle.base_ids.specs.declared.ids.LaneId.{LaneId}
 use Rattle.base_ids.specs.declared.ids.OpId.{OpId}
 use Rattle.base_ids.specs.declared.ids.Version.{Version}
 use Rattle.cluster_history.specs.History.{History, is_restart_of}
-use Rattle.cluster_history.specs.Requests.{begins, begun_count, begun_ops, is_begin_of, is_live, is_reply_to, live_ops, next_op, replies_to}
+use Rattle.cluster_history.specs.Requests.{begins_request, begun_count, begun_ops, is_begin_of, is_live, is_reply_to, live_ops, next_op, replies_to}
 use Rattle.cluster_history.specs.declared.data.Entry.{Entry}
 use Rattle.cluster_history.specs.declared.data.Event.TheVariants.{Begin, Restart}
 use Rattle.cluster_history.specs.declared.data.Operation.{Operation}
@@ -94,7 +94,7 @@ stays false live ended e = refl
 -- which of the requests live on after an entry that begins none
 pub is_live-later : (history : History) (entry : Entry) (by : LaneId) (op : OpId) → is_begin_of by entry.event ≡ false → is_live (entry ∷ history) by op ≡ (is_live history by op && not (ends entry by op))
 is_live-later history entry by op e =
-    stays (begins history entry.event by op) (is_live history by op) (ends entry by op) (ap (λ b. b && (op.0 == begun_count history by + 1)) e)
+    stays (begins_request history entry.event by op) (is_live history by op) (ends entry by op) (ap (λ b. b && (op.0 == begun_count history by + 1)) e)
 
 later_ops : (history : History) (entry : Entry) (by : LaneId) (p : OpId → Bool) → is_begin_of by entry.event ≡ false → ((op : OpId) → is_live (entry ∷ history) by op ≡ p op) → live_ops (entry ∷ history) by ≡ filter p (begun_ops history by)
 later_ops history entry by p e same =

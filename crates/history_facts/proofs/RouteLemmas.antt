@@ -19,9 +19,9 @@ use Rattle.cluster_history.specs.History.{History}
 use Rattle.cluster_history.specs.Legal.{HasActor, broken_rule}
 use Rattle.cluster_history.specs.Messages.{key_of, kind_of}
 use Rattle.cluster_history.specs.Openings.{HasLane, opening_state}
-use Rattle.cluster_history.specs.Requests.{Request, Way, begins, begun_count, has_live_below, is_begin_of, is_below, is_live, lags, live_count, live_ops, numbers_below, request_at, request_on, started_request, targets_of, way_by, way_in, way_of}
+use Rattle.cluster_history.specs.Requests.{Request, Way, begins_request, begun_count, has_live_below, is_begin_of, is_below, is_live, lags, live_count, live_ops, numbers_below, request_at, request_on, started_request, targets_of, way_by, way_in, way_of}
 use Rattle.cluster_history.specs.Requests.Way.{Ends, Goes}
-use Rattle.cluster_history.specs.Rules.{first_broken, quiet_rule}
+use Rattle.cluster_history.specs.Rules.{first_broken_rule, quiet_rule}
 use Rattle.cluster_history.specs.Topology.{accepted_command, floor_of, greater_version, log_of, raised_floor, state_of_version, version_of}
 use Rattle.cluster_history.specs.declared.data.Entry.{Entry}
 use Rattle.cluster_history.specs.declared.data.Event.{Event}
@@ -92,7 +92,7 @@ started_routed opening history event lane request is e = cc is
 pub routed : RequestsAreRouted
 routed opening [] lane op request e = cc e
 routed opening (entry ∷ history) lane op request e =
-    (elim (begins history entry.event lane op) as (λ b. begins history entry.event lane op ≡ b → (if b then started_request opening history entry.event else request_at opening history lane op) ≡ Some request → IsRouted opening (entry ∷ history) lane request) [
+    (elim (begins_request history entry.event lane op) as (λ b. begins_request history entry.event lane op ≡ b → (if b then started_request opening history entry.event else request_at opening history lane op) ≡ Some request → IsRouted opening (entry ∷ history) lane request) [
       | true ↦ λ now f.
           routed-later opening history entry lane request
           (started_routed opening history entry.event lane request (both_true (is_begin_of lane entry.event) (op.0 == begun_count history lane + 1) now).0 f)
@@ -147,12 +147,12 @@ lane_below p host (suc n) number less none =
 
 none_lives_below : (version newest : Version) (live_below : Bool) → quiet_rule version newest live_below ≡ None → live_below ≡ false
 none_lives_below version newest live_below e =
-    elim (nat_lt newest.0 version.0) as (λ b. (if b then Some VersionAhead else first_broken ((live_below, LiveBelow) ∷ [])) ≡ None → live_below ≡ false) [
+    elim (nat_lt newest.0 version.0) as (λ b. (if b then Some VersionAhead else first_broken_rule ((live_below, LiveBelow) ∷ [])) ≡ None → live_below ≡ false) [
       | true ↦ λ f. cc f
       | false ↦ λ f. unbroken live_below f
     ] e
   where
-    unbroken : (b : Bool) → first_broken ((b, LiveBelow) ∷ []) ≡ None → b ≡ false
+    unbroken : (b : Bool) → first_broken_rule ((b, LiveBelow) ∷ []) ≡ None → b ≡ false
     unbroken true f = cc f
     unbroken false f = refl
 
@@ -179,7 +179,7 @@ pub held_back : LiveRequestsHoldBack
 held_back opening [] lane op request legal live begun = cc live
 held_back opening (entry ∷ history) lane op request legal live begun =
     let rises = version_of-rises opening history entry lane.host (applied_within opening history lane.host legal.1) in
-    (elim (begins history entry.event lane op) as (λ b. begins history entry.event lane op ≡ b → (if b then started_request opening history entry.event else request_at opening history lane op) ≡ Some request → IsHeldBack opening (entry ∷ history) lane request.version) [
+    (elim (begins_request history entry.event lane op) as (λ b. begins_request history entry.event lane op ≡ b → (if b then started_request opening history entry.event else request_at opening history lane op) ≡ Some request → IsHeldBack opening (entry ∷ history) lane request.version) [
       | true ↦ λ now f.
           let is = (both_true (is_begin_of lane entry.event) (op.0 == begun_count history lane + 1) now).0 in
           let started = started_held opening history entry.event lane request legal.0.actor legal.0.enabled is f in

@@ -6,6 +6,7 @@ use Rattle.std.specs.Prelude.{Bool, List, None, Option, Some, [], false, if◌th
 use Rattle.barrier_core.specs.declared.data.Ask.{Ask}
 use Rattle.barrier_core.specs.declared.data.What.{What}
 use Rattle.barrier_core.specs.declared.data.What.TheVariants.{Clean as CleanOf}
+use Rattle.group0_log.specs.Log.{outcome_of}
 use Rattle.base_ids.specs.Replicas.{has_replica, same_replica}
 use Rattle.base_ids.specs.declared.ids.Actor.TheVariants.{Host as ByHost}
 use Rattle.base_ids.specs.declared.ids.HostId.{HostId}
@@ -21,7 +22,7 @@ use Rattle.cluster_history.specs.History.{History, message_at, output_at}
 use Rattle.cluster_history.specs.Legal.{broken_rule, outputs_of}
 use Rattle.cluster_history.specs.Messages.{addressee, is_clean_ask, is_for, is_question, is_request, kind_of, read_key}
 use Rattle.cluster_history.specs.Moves.{first_pull}
-use Rattle.cluster_history.specs.Outputs.{answer_outputs, ask_of, begin_outputs, chunk_outputs, clean_outputs, cleaned_outputs, decided_by, fact_for, is_last, outcome_of, pull_outputs, reply_list, said_to, sent_ask, serve_outputs, take_outputs, timeout_outputs}
+use Rattle.cluster_history.specs.Outputs.{answer_outputs, ask_of, begin_outputs, chunk_outputs, clean_outputs, cleaned_outputs, decided_by, fact_for, is_last, pull_outputs, reply_list, said_to, sent_ask, serve_outputs, take_outputs, timeout_outputs}
 use Rattle.cluster_history.specs.Requests.{Request, Route, Way, answers_of, live_request, next_op, way_of}
 use Rattle.cluster_history.specs.Requests.Way.{Ends, Goes}
 use Rattle.cluster_history.specs.Rules.{asks_truly, is_so, message_rule}

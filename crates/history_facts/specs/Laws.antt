@@ -45,7 +45,8 @@ pub record AreBegun (opening : Opening) (history : History) (lane : LaneId) (op 
   pub begun : (request : Request) → request_at opening history lane op ≡ Some request → op.0 ≤ begun_count history lane
 
 abbrev pub LiveRequestsWereBegun : Type 0
-LiveRequestsWereBegun = (opening : Opening) (history : History) (lane : LaneId) (op : OpId) → AreBegun opening history lane op
+LiveRequestsWereBegun = (opening : Opening) (history : History) (lane : LaneId)
+    (op : OpId) → AreBegun opening history lane op
 
 -- ---- the log
 
@@ -66,7 +67,8 @@ pub record IsWithinLog (opening : Opening) (history : History) (host : HostId) :
   pub version_below : (version_of opening history host).0 ≤ (last_state opening history).version.0
 
 abbrev pub HostsAreWithinLogs : Type 0
-HostsAreWithinLogs = (opening : Opening) (history : History) (host : HostId) → IsLegalHistory opening history → IsWithinLog opening history host
+HostsAreWithinLogs = (opening : Opening) (history : History)
+    (host : HostId) → IsLegalHistory opening history → IsWithinLog opening history host
 
 -- none of them falls, whatever comes next, restarts among it
 pub record IsNotLower (opening : Opening) (history : History) (entry : Entry) (host : HostId) : Type 0 where

@@ -1,5 +1,5 @@
--- A host as plain data, and its part of each event: the first rule that its own state decides, what becomes of it, and what
--- comes out.
+-- A host as plain data, and its part of each event: the first rule that its own state decides, what becomes of it,
+-- and what comes out.
 use Rattle.std.specs.Prelude.{ℕ, ◌+◌, ◌-◌, ◌≡◌, ◌<◌, ◌^◌, Bool, false, nat_lt, nat_le, is_some, is_none, [], Option, Some, None, if◌then◌else◌}
 use Rattle.std.specs.Option.{option_or}
 use Rattle.base_ids.specs.Names.{first_version}
@@ -27,14 +27,14 @@ use Rattle.topo_state.specs.After.{after}
 use Rattle.topo_state.specs.Rules.{rule, IsFit}
 use Rattle.topo_state.specs.Moves.{has_split}
 use Rattle.topo_state.specs.declared.command.Command.{Command}
-use Rattle.host_core.specs.Pulls.{Pulls, pull_in, with_pull, without_pull, first_pull}
+use Rattle.host_core.specs.Pulls.{Pulls, pull_in, with_pull, without_pull, pull_of_state}
 use Rattle.host_core.specs.declared.data.HostInput.{HostInput}
 use Rattle.host_core.specs.declared.data.HostInput.TheVariants.{Apply, Quiet, Write, Read, SendChunk, TakeChunk, Answer as AnswerAsk, Clean, Pull}
 use Rattle.host_core.specs.declared.data.HostOut.{HostOut}
 use Rattle.host_core.specs.declared.data.HostOut.TheVariants.{Nothing, Answer, Ask as AskChunk, Chunk, Fact, NotMine, Pulled, Pulling}
 
--- a host: how many commands it has applied and the state that they made, the version below which its lanes begin nothing,
--- what it holds, and what it pulls
+-- a host: how many commands it has applied and the state that they made, the version below which its lanes begin
+-- nothing, what it holds, and what it pulls
 pub record HostView : Type 0 where
   pub host : HostId
   pub applied : ℕ
@@ -49,44 +49,46 @@ first_host host opening =
 
 -- ---- rules
 
-abbrev pub is_done : Option PullView → Bool
-is_done None = false
-is_done (Some pull) = pull.done
+abbrev pub is_pulled : Option PullView → Bool
+is_pulled None = false
+is_pulled (Some pull) = pull.done
 
 -- what the host can tell; that it cleaned is told by a cleanup alone
-abbrev pub is_so : HostView → What → Bool
-is_so view (Drain version) = nat_le version.0 view.floor.0
-is_so view (FenceAt version) = nat_le version.0 view.state.fence.0
-is_so view (PullDone session) = is_done (pull_in view.pulls session)
-is_so view (CleanOf session) = false
-is_so view (Ready number) = has_split view.state number
+abbrev pub holds_here : HostView → What → Bool
+holds_here view (Drain version) = nat_le version.0 view.floor.0
+holds_here view (FenceAt version) = nat_le version.0 view.state.fence.0
+holds_here view (PullDone session) = is_pulled (pull_in view.pulls session)
+holds_here view (CleanOf session) = false
+holds_here view (Ready number) = has_split view.state number
 
 -- there is nothing to pull, or it was pulled
-abbrev pub pull_rule : Option PullView → Option PullView → Option EventRule
-pull_rule new pull = if is_none new then Some NoStream else if is_done pull then Some PullOver else None
+abbrev pub pull_input_rule : Option PullView → Option PullView → Option EventRule
+pull_input_rule new pull = if is_none new then Some NoStream else if is_pulled pull then Some PullOver else None
 
 -- the first rule of the input that the host's own state decides
 abbrev pub host_rule : HostView → HostInput → Option EventRule
 host_rule view (Quiet version) = if nat_lt view.state.version.0 version.0 then Some VersionAhead else None
-host_rule view (AnswerAsk ask) = if is_so view ask.what then None else Some NotTrue
-host_rule view (Pull session) = pull_rule (first_pull view.state view.host session) (pull_in view.pulls session)
+host_rule view (AnswerAsk ask) = if holds_here view ask.what then None else Some NotTrue
+host_rule view (Pull session) = pull_input_rule (pull_of_state view.state view.host session)
+    (pull_in view.pulls session)
 host_rule view input = None
 
 -- ---- what becomes of it
 
-abbrev pub greater_version : Version → Version → Version
-greater_version a b = if nat_lt a.0 b.0 then b else a
+abbrev pub later_version : Version → Version → Version
+later_version a b = if nat_lt a.0 b.0 then b else a
 
 -- the cells and the pulls after a chunk: those of the pull that it is for, where there is one
-abbrev pub chunk_cells : Cells → ChunkMsg → Option PullView → Cells
-chunk_cells cells chunk None = cells
-chunk_cells cells chunk (Some pull) = cells_after cells pull chunk
+abbrev pub cells_with_chunk : Cells → ChunkMsg → Option PullView → Cells
+cells_with_chunk cells chunk None = cells
+cells_with_chunk cells chunk (Some pull) = cells_after cells pull chunk
 
 abbrev pub chunk_pulls : Pulls → ChunkMsg → Option PullView → Pulls
 chunk_pulls pulls chunk None = pulls
 chunk_pulls pulls chunk (Some pull) = with_pull pulls chunk.session (pull_after pull chunk)
 
--- the cells and the pulls after a cleanup: a session that cleans the host drops what its move leaves there, and its pull
+-- the cells and the pulls after a cleanup: a session that cleans the host drops what its move leaves there, and its
+-- pull
 abbrev pub clean_cells : Cells → Topology → HostId → What → Cells
 clean_cells cells state host (CleanOf session) = cleaned_cells cells state host session
 clean_cells cells state host what = cells
@@ -102,7 +104,7 @@ clean_pulls pulls state host what = pulls
 -- the pull that begins: the first one of a session that has none yet
 abbrev pub begun_pull : Topology → HostId → Pulls → Session → Option PullView
 begun_pull state host pulls session =
-    if is_some (pull_in pulls session) then None else first_pull state host session
+    if is_some (pull_in pulls session) then None else pull_of_state state host session
 
 abbrev pub with_begun : Pulls → Session → Option PullView → Pulls
 with_begun pulls session None = pulls
@@ -120,11 +122,11 @@ next_pull view input = None
 abbrev pub host_after : HostView → HostInput → HostView
 host_after view (Apply command) =
     record view { applied = view.applied + 1; state = after view.state command (view.applied + 1) }
-host_after view (Quiet version) = record view { floor = greater_version view.floor version }
+host_after view (Quiet version) = record view { floor = later_version view.floor version }
 host_after view (Write ask) = record view { cells = written_cells view.state.fence view.cells ask }
 host_after view (TakeChunk chunk) =
     record view {
-      cells = chunk_cells view.cells chunk (pull_in view.pulls chunk.session);
+      cells = cells_with_chunk view.cells chunk (pull_in view.pulls chunk.session);
       pulls = chunk_pulls view.pulls chunk (pull_in view.pulls chunk.session);
     }
 host_after view (Clean ask) =
@@ -142,8 +144,8 @@ restarted view = record view { pulls = [] }
 
 -- ---- what comes out
 
-abbrev pub fact_for : Ask → FactTold
-fact_for ask = record { from = ask.to; to = ask.by; what = ask.what }
+abbrev pub told_fact : Ask → FactTold
+told_fact ask = record { from = ask.to; to = ask.by; what = ask.what }
 
 abbrev pub took_out : Session → Took → HostOut
 took_out session More = Pulling session
@@ -156,7 +158,7 @@ chunk_out chunk None = Nothing
 chunk_out chunk (Some pull) = took_out chunk.session (took_of pull chunk)
 
 abbrev pub cleanup_out : Ask → Session → Cleanup → HostOut
-cleanup_out ask session Cleaned = Fact (fact_for ask)
+cleanup_out ask session Cleaned = Fact (told_fact ask)
 cleanup_out ask session NotCleaned = NotMine ask.by session
 
 abbrev pub clean_out : Topology → HostId → Ask → What → HostOut
@@ -172,9 +174,10 @@ out_of host state cells pulls (Write ask) = Answer (write_answer state.fence ask
 out_of host state cells pulls (Read ask) = Answer (read_answer state.fence cells ask)
 out_of host state cells pulls (SendChunk ask) = Chunk (served_chunk cells ask)
 out_of host state cells pulls (TakeChunk chunk) = chunk_out chunk (pull_in pulls chunk.session)
-out_of host state cells pulls (AnswerAsk ask) = Fact (fact_for ask)
+out_of host state cells pulls (AnswerAsk ask) = Fact (told_fact ask)
 out_of host state cells pulls (Clean ask) = clean_out state host ask ask.what
-out_of host state cells pulls (Pull session) = pull_out (option_or (pull_in pulls session) (first_pull state host session))
+out_of host state cells pulls (Pull session) = pull_out (option_or (pull_in pulls session)
+    (pull_of_state state host session))
 out_of host state cells pulls input = Nothing
 
 abbrev pub host_out : HostView → HostInput → HostOut
@@ -182,7 +185,8 @@ host_out view input = out_of view.host view.state view.cells view.pulls input
 
 -- ---- what the host can take
 
--- the state judges the command well, and no count passes its type; this is asked of a fence too, which raises no version
+-- the state judges the command well, and no count passes its type; this is asked of a fence too, which raises no
+-- version
 pub record CanApply (view : HostView) (command : Command) : Type 0 where
   pub fit : IsFit command
   pub judged : rule view.state command ≡ None

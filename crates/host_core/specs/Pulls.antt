@@ -26,14 +26,16 @@ with_pull pulls session pull = insert_entry same_session pulls session pull
 abbrev pub without_pull : Pulls → Session → Pulls
 without_pull pulls session = remove_entry (same_session session) pulls
 
--- the pull that a move is for a host: of the tablet's range from the leaving replica's host, where it streams to this host
-abbrev pub pull_for : HostId → Session → Option Move → Option Pulling
-pull_for host session None = None
-pull_for host session (Some move) =
-    if streams_to host move then Some (new_pull session move.table move.range host move.transition.leaving.host) else None
+-- the pull that a move is for a host: of the tablet's range from the leaving replica's host, where it streams to this
+-- host
+abbrev pub pull_of_move : HostId → Session → Option Move → Option Pulling
+pull_of_move host session None = None
+pull_of_move host session (Some move) =
+    if streams_to host move then Some (new_pull session move.table move.range host move.transition.leaving.host)
+    else None
 
-abbrev pub first_pull : Topology → HostId → Session → Option Pulling
-first_pull state host session = pull_for host session (move_of state session)
+abbrev pub pull_of_state : Topology → HostId → Session → Option Pulling
+pull_of_state state host session = pull_of_move host session (move_of state session)
 
 -- what is seen of a table of pulls: the pulls, and how many can begin without taking memory
 pub record PullTableView : Type 0 where

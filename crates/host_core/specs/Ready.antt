@@ -5,8 +5,8 @@ use Rattle.host_core.specs.declared.data.HostInput.{HostInput}
 use Rattle.host_core.specs.declared.data.HostInput.TheVariants.{Write, TakeChunk, Pull}
 use Rattle.host_core.specs.declared.data.Made.{Made}
 
--- a host with what was made for its next input, with how many cells it can put and how many pulls it can begin without taking
--- memory, and with its store
+-- a host with what was made for its next input, with how many cells it can put and how many pulls it can begin
+-- without taking memory, and with its store
 pub record Holding (S : Type 0) : Type 0 where
   pub core : HostView
   pub made : Option Made

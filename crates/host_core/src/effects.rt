@@ -2,7 +2,7 @@
 ghost use Rattle.std.specs.Prelude.{◌≡◌, ◌≤◌, length, Some, None};
 ghost use Rattle.base_ids.specs.declared.ids.TableId.{TableId};
 ghost use Rattle.replica_store.specs.Cells.{IsOrdered};
-ghost use Rattle.host_core.specs.Host.{chunk_cells, chunk_pulls, clean_cells, clean_pulls, kept_pulls, with_begun, greater_version};
+ghost use Rattle.host_core.specs.Host.{cells_with_chunk, chunk_pulls, clean_cells, clean_pulls, kept_pulls, with_begun, later_version};
 ghost use Rattle.replica_core.specs.Cleanups.{cleanup_of, cleaned_cells};
 ghost use Rattle.host_core.specs.Pulls.{pull_in};
 
@@ -16,7 +16,7 @@ use topo_state::TopoState;
 
 /// The greater one of two versions.
 pub fn greater_version(a: Version, b: Version) -> Version
-    ensures { result ≡ greater_version a b }
+    ensures { result ≡ later_version a b }
 {
     if a.0 < b.0 { b } else { a }
 }
@@ -26,7 +26,7 @@ pub fn take_chunk<S: Store>(store: &mut S, pulls: &mut PullTable, chunk: &ChunkM
     requires ordered { IsOrdered (S.cells store.old) }
     requires room { length chunk.now.cells ≤ S.spare store.old }
     ensures cells { S.cells store.new
-        ≡ chunk_cells (S.cells store.old) chunk.now (pull_in pulls.old.list chunk.now.session) }
+        ≡ cells_with_chunk (S.cells store.old) chunk.now (pull_in pulls.old.list chunk.now.session) }
     ensures pulls { pulls.new.list
         ≡ chunk_pulls pulls.old.list chunk.now (pull_in pulls.old.list chunk.now.session) }
     ensures ordered { IsOrdered (S.cells store.new) }

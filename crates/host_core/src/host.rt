@@ -1,8 +1,8 @@
 //! A host over a store.
 ghost use Rattle.std.specs.Prelude.{◌≡◌, ◌≤◌, [], IfOk, OnOk, OnErr, MatchResult, None, Some};
 ghost use Rattle.base_ids.specs.declared.ids.TableId.{TableId};
-ghost use Rattle.host_core.specs.Host.{first_host, is_done, is_so, pull_rule, host_rule, next_state, next_pull, host_after, host_out, restarted, CanTake};
-ghost use Rattle.host_core.specs.Pulls.{pull_in, first_pull};
+ghost use Rattle.host_core.specs.Host.{first_host, is_pulled, holds_here, pull_input_rule, host_rule, next_state, next_pull, host_after, host_out, restarted, CanTake};
+ghost use Rattle.host_core.specs.Pulls.{pull_in, pull_of_state};
 ghost use Rattle.host_core.specs.Groups.{grouping_of, runs_with, AreLeft};
 
 use crate::data::{HostInput, HostOut, Made};
@@ -33,8 +33,8 @@ impl Model for Prepared {
 
 /// A host: the commands of the log that it has applied, its floor, the cells that it holds, and its pulls.
 ///
-/// Contracts see it as plain data (`core`); beside that what was made for its next input, the room for cells and for pulls,
-/// and the run counts of its store.
+/// Contracts see it as plain data (`core`); beside that what was made for its next input, the room for cells and for
+/// pulls, and the run counts of its store.
 #[derive(Drop)]
 pub struct HostCore<S: Store> {
     alloc: Global,
@@ -53,7 +53,20 @@ impl<S: Store> Model for HostCore<S> {
 
     ghost Value = { Holding S };
 
-    ghost view = { λ h. record { core = record { host = h.host; applied = h.applied; state = h.state; floor = h.floor; cells = S.cells h.store; pulls = h.pulls.list }; made = h.made; room = S.spare h.store; pull_room = h.pulls.spare; store = h.store } };
+    ghost view = { λ h. record {
+      core = record {
+        host = h.host;
+        applied = h.applied;
+        state = h.state;
+        floor = h.floor;
+        cells = S.cells h.store;
+        pulls = h.pulls.list;
+      };
+      made = h.made;
+      room = S.spare h.store;
+      pull_room = h.pulls.spare;
+      store = h.store;
+    } };
 
     ghost invariant = { λ h. IsOrdered (S.cells h.store) };
 }
@@ -102,7 +115,7 @@ impl<S: Store> HostCore<S> {
 
     /// Whether its pull of the session is done.
     pub fn has_done(&self, session: Session) -> bool
-        ensures { result ≡ is_done (pull_in self.now.core.pulls session) }
+        ensures { result ≡ is_pulled (pull_in self.now.core.pulls session) }
     {
         match self.pulls.get(session) {
             Some(pull) => pull.is_done(),
@@ -120,7 +133,7 @@ impl<S: Store> HostCore<S> {
 
     /// Whether the host can tell it.
     fn is_so(&self, what: What) -> bool
-        ensures { result ≡ is_so self.now.core what }
+        ensures { result ≡ holds_here self.now.core what }
     {
         match what {
             What::Drain(version) => version.0 <= self.floor.0,
@@ -134,8 +147,10 @@ impl<S: Store> HostCore<S> {
     /// Whether there is nothing to pull for the session, or it was pulled.
     fn check_pull(&self, session: Session) -> Result<(), EventRule>
         ensures { MatchResult result
-            (λ _. pull_rule (first_pull self.now.core.state self.now.core.host session) (pull_in self.now.core.pulls session) ≡ None)
-            (λ broken. pull_rule (first_pull self.now.core.state self.now.core.host session) (pull_in self.now.core.pulls session) ≡ Some broken) }
+            (λ _. pull_input_rule (pull_of_state self.now.core.state self.now.core.host session)
+            (pull_in self.now.core.pulls session) ≡ None)
+            (λ broken. pull_input_rule (pull_of_state self.now.core.state self.now.core.host session)
+            (pull_in self.now.core.pulls session) ≡ Some broken) }
     {
         if making::first_pull(&self.state, self.host, session).is_none() {
             Err(EventRule::NoStream)
@@ -146,9 +161,11 @@ impl<S: Store> HostCore<S> {
         }
     }
 
-    /// The first rule of the input that the host's own state decides: `VersionAhead`, `NotTrue`, `NoStream`, `PullOver`.
+    /// The first rule of the input that the host's own state decides: `VersionAhead`, `NotTrue`, `NoStream`,
+    /// `PullOver`.
     pub fn check(&self, input: &HostInput) -> Result<(), EventRule>
-        ensures { MatchResult result (λ _. host_rule self.now.core input.now ≡ None) (λ broken. host_rule self.now.core input.now ≡ Some broken) }
+        ensures { MatchResult result (λ _. host_rule self.now.core input.now ≡ None)
+            (λ broken. host_rule self.now.core input.now ≡ Some broken) }
     {
         match input {
             HostInput::Quiet(version) if self.state.version().0 < version.0 => {
@@ -228,8 +245,10 @@ impl<S: Store> HostCore<S> {
     fn regroup(&mut self, next: &Option<TopoState>, input: &HostInput) -> Result<(), NoMemory>
         requires { next.now ≡ next_state self.old.core input.now }
         ensures core { self.new.core ≡ self.old.core }
-        ensures ok { OnOk result ((t : TableId) → S.runs self.new.store t ≡ runs_with (grouping_of self.old.core input.now) (S.runs self.old.store) t) }
-        ensures err { OnErr result (AreLeft (grouping_of self.old.core input.now) (S.runs self.old.store) (S.runs self.new.store)) }
+        ensures ok { OnOk result ((t : TableId) → S.runs self.new.store t ≡
+            runs_with (grouping_of self.old.core input.now) (S.runs self.old.store) t) }
+        ensures err { OnErr result (AreLeft (grouping_of self.old.core input.now) (S.runs self.old.store)
+            (S.runs self.new.store)) }
         ensures pull_room { self.new.pull_room ≡ self.old.pull_room }
         ensures room { needed_cells input.now ≤ self.old.room → needed_cells input.now ≤ self.new.room }
     {
@@ -243,8 +262,10 @@ impl<S: Store> HostCore<S> {
         ensures core { self.new.core ≡ self.old.core }
         ensures input { IfOk result (λ prepared. prepared ≡ input) }
         ensures ready { IfOk result (λ prepared. HasMade self.new prepared) }
-        ensures runs { OnOk result ((t : TableId) → S.runs self.new.store t ≡ runs_with (grouping_of self.old.core input) (S.runs self.old.store) t) }
-        ensures err { OnErr result (AreLeft (grouping_of self.old.core input) (S.runs self.old.store) (S.runs self.new.store)) }
+        ensures runs { OnOk result ((t : TableId) → S.runs self.new.store t ≡
+            runs_with (grouping_of self.old.core input) (S.runs self.old.store) t) }
+        ensures err { OnErr result (AreLeft (grouping_of self.old.core input) (S.runs self.old.store)
+            (S.runs self.new.store)) }
     {
         let made = self.make(&input)?;
         self.make_room(&input)?;

@@ -1,9 +1,9 @@
 //! What is made of an input before it is settled. Nothing of the host changes.
 ghost use Rattle.std.specs.Prelude.{◌≡◌, ◌+◌, ◌-◌, ◌^◌, ◌<◌, IfOk};
 ghost use Rattle.std.specs.Option.{option_or};
-ghost use Rattle.host_core.specs.Host.{fact_for, chunk_out, clean_out, begun_pull, pull_out, out_of};
+ghost use Rattle.host_core.specs.Host.{told_fact, chunk_out, clean_out, begun_pull, pull_out, out_of};
 ghost use Rattle.stream_core.specs.Pulls.{served_chunk, next_ask};
-ghost use Rattle.host_core.specs.Pulls.{pull_in, pull_for, first_pull};
+ghost use Rattle.host_core.specs.Pulls.{pull_in, pull_of_move, pull_of_state};
 ghost use Rattle.topo_state.specs.After.{after};
 ghost use Rattle.topo_state.specs.Rules.{rule, IsFit};
 
@@ -38,7 +38,7 @@ pub fn next_state(
 
 /// The pull that a move is for a host.
 fn pull_for(host: HostId, session: Session, found: &Option<Move>) -> Option<Pull>
-    ensures { result ≡ pull_for host session found.now }
+    ensures { result ≡ pull_of_move host session found.now }
 {
     match found {
         None => None,
@@ -55,7 +55,7 @@ fn pull_for(host: HostId, session: Session, found: &Option<Move>) -> Option<Pull
 
 /// The pull that the state has for the session on a host.
 pub fn first_pull(state: &TopoState, host: HostId, session: Session) -> Option<Pull>
-    ensures { result ≡ first_pull state.now host session }
+    ensures { result ≡ pull_of_state state.now host session }
 {
     pull_for(host, session, &move_of(state, session))
 }
@@ -77,7 +77,7 @@ pub fn begun_pull(
 
 /// What comes of a pull event.
 fn pull_out(state: &TopoState, host: HostId, pulls: &PullTable, session: Session) -> HostOut
-    ensures { result ≡ pull_out (option_or (pull_in pulls.now.list session) (first_pull state.now host session)) }
+    ensures { result ≡ pull_out (option_or (pull_in pulls.now.list session) (pull_of_state state.now host session)) }
 {
     match pulls.get(session) {
         Some(pull) => HostOut::Ask(pull.ask()),
@@ -113,7 +113,7 @@ fn chunk_out(pulls: &PullTable, chunk: &ChunkMsg) -> HostOut
 
 /// The fact that was asked for.
 fn fact_for(ask: &Ask) -> Fact
-    ensures { result ≡ fact_for ask.now }
+    ensures { result ≡ told_fact ask.now }
 {
     Fact {
         from: ask.to,

@@ -9,8 +9,8 @@ use Rattle.base_ids.specs.declared.ids.HostId.{HostId}
 use Rattle.base_ids.specs.declared.ids.Session.{Session}
 use Rattle.base_ids.specs.declared.ids.Version.{Version}
 use Rattle.base_ids.specs.declared.rules.EventRule.TheVariants.{LiveBelow, NotTrue, VersionAhead}
-use Rattle.host_core.specs.Host.{host_rule, is_so as is_so_by, pull_rule as pull_rule_by}
-use Rattle.host_core.specs.Pulls.{first_pull as first_pull_by, pull_in}
+use Rattle.host_core.specs.Host.{host_rule, holds_here as is_so_by, pull_input_rule as pull_rule_by}
+use Rattle.host_core.specs.Pulls.{pull_of_state as first_pull_by, pull_in}
 use Rattle.host_core.specs.declared.data.HostInput.TheVariants.{Pull as PullInput}
 use Rattle.stream_core.specs.Pulls.{Pulling}
 use Rattle.cluster_history.specs.Held.{has_done}

@@ -15,8 +15,8 @@ use Rattle.base_ids.specs.declared.ids.TableId.{TableId}
 use Rattle.base_ids.specs.declared.ids.Version.{Version}
 use Rattle.group0_log.proofs.StateLemmas.{command_within, leads}
 use Rattle.group0_log.specs.Log.{command_at}
-use Rattle.host_core.specs.Host.{chunk_cells as chunk_cells_by, chunk_out, clean_cells, clean_out, clean_pulls, cleanup_out, host_after, kept_pulls, pull_out, took_out}
-use Rattle.host_core.specs.Pulls.{Pulls, first_pull as first_pull_by, pull_in}
+use Rattle.host_core.specs.Host.{cells_with_chunk as chunk_cells_by, chunk_out, clean_cells, clean_out, clean_pulls, cleanup_out, host_after, kept_pulls, pull_out, took_out}
+use Rattle.host_core.specs.Pulls.{Pulls, pull_of_state as first_pull_by, pull_in}
 use Rattle.host_core.specs.declared.data.HostInput.{HostInput}
 use Rattle.host_core.specs.declared.data.HostInput.TheVariants.{Answer as AnswerInput, Apply as ApplyInput, Clean as CleanInput, Pull as PullInput, Quiet as QuietInput, Read as ReadInput, SendChunk, TakeChunk as ChunkInput, Write as WriteInput}
 use Rattle.quorum_ops.specs.declared.data.ReadAsk.{ReadAsk}

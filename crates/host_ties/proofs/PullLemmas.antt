@@ -7,8 +7,8 @@ use Rattle.base_ids.specs.Names.{same_actor, same_host, same_session}
 use Rattle.base_ids.specs.declared.ids.Actor.TheVariants.{Host as ByHost}
 use Rattle.base_ids.specs.declared.ids.HostId.{HostId}
 use Rattle.base_ids.specs.declared.ids.Session.{Session}
-use Rattle.host_core.specs.Host.{begun_pull, chunk_pulls, is_done as is_pull_done, with_begun}
-use Rattle.host_core.specs.Pulls.{Pulls, first_pull as first_pull_by, pull_for as pull_for_by, pull_in, with_pull, without_pull}
+use Rattle.host_core.specs.Host.{begun_pull, chunk_pulls, is_pulled as is_pull_done, with_begun}
+use Rattle.host_core.specs.Pulls.{Pulls, pull_of_state as first_pull_by, pull_of_move as pull_for_by, pull_in, with_pull, without_pull}
 use Rattle.stream_core.specs.Pulls.{Pulling, is_next, last_token, new_pull, pull_after}
 use Rattle.stream_core.specs.declared.data.ChunkMsg.{ChunkMsg}
 use Rattle.topo_state.specs.Moves.{move_of, streams_to}

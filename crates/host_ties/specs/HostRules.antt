@@ -9,7 +9,7 @@ use Rattle.base_ids.specs.declared.ids.Version.{Version}
 use Rattle.base_ids.specs.declared.rules.EventRule.{EventRule}
 use Rattle.base_ids.specs.declared.rules.EventRule.TheVariants.{LiveBelow}
 use Rattle.barrier_core.specs.declared.data.Ask.{Ask}
-use Rattle.host_core.specs.Host.{HostView, host_rule, is_done as is_pull_done}
+use Rattle.host_core.specs.Host.{HostView, host_rule, is_pulled as is_pull_done}
 use Rattle.host_core.specs.Pulls.{pull_in}
 use Rattle.host_core.specs.declared.data.HostInput.TheVariants.{Answer as AnswerInput, Pull as PullInput, Quiet as QuietInput}
 use Rattle.cluster_history.specs.Held.{has_done, pull_of}

@@ -11,7 +11,7 @@ use Rattle.lane_core.specs.declared.data.LaneInput.{LaneInput}
 use Rattle.lane_core.specs.declared.data.LaneInput.TheVariants.{Write, Read, Take, Timeout}
 use Rattle.lane_core.specs.declared.lane.Made.{Made}
 use Rattle.lane_core.specs.Work.{pending_in}
-use Rattle.lane_core.specs.Lane.{LaneView, next_op, lane_work, lane_out, IsFor}
+use Rattle.lane_core.specs.Lane.{LaneView, next_request, lane_work, lane_out, IsFor}
 
 -- a request of this name waits for answers, and is not decided
 pub record IsWaiting (lane : LaneId) (op : OpId) (work : Work) : Type 0 where
@@ -39,15 +39,15 @@ lane_made lane input = record { out = lane_out lane input; work = lane_work lane
 
 -- a request that begins has room
 abbrev pub HasRoom : LaneView → Option OpId → LaneInput → Type 0
-HasRoom lane room (Write table token cell snapshot) = room ≡ Some (next_op lane)
-HasRoom lane room (Read table token snapshot) = room ≡ Some (next_op lane)
+HasRoom lane room (Write table token cell snapshot) = room ≡ Some (next_request lane)
+HasRoom lane room (Read table token snapshot) = room ≡ Some (next_request lane)
 HasRoom lane room (Take answer) = Unit {0}
 HasRoom lane room (Timeout op) = Unit {0}
 
 -- the number of the request that an input is about
 abbrev pub op_of : LaneView → LaneInput → OpId
-op_of lane (Write table token cell snapshot) = next_op lane
-op_of lane (Read table token snapshot) = next_op lane
+op_of lane (Write table token cell snapshot) = next_request lane
+op_of lane (Read table token snapshot) = next_request lane
 op_of lane (Take answer) = answer.op
 op_of lane (Timeout op) = op
 

@@ -45,59 +45,74 @@ abbrev pub lane_restarted : LaneView → LaneView
 lane_restarted lane = record lane { live = [] }
 
 -- the number of the next request
-abbrev pub next_op : LaneView → OpId
-next_op lane = record { 0 = lane.begun + 1 }
+abbrev pub next_request : LaneView → OpId
+next_request lane = record { 0 = lane.begun + 1 }
 
 -- ---- rules
 
 -- a lane has at most so many live requests
-abbrev pub most_live : ℕ
-most_live = 8
+abbrev pub most_requests : ℕ
+most_requests = 8
 
-abbrev pub begin_rule : LaneView → Option EventRule
-begin_rule lane = if nat_le most_live (length lane.live) then Some LaneFull else None
+abbrev pub room_rule : LaneView → Option EventRule
+room_rule lane = if nat_le most_requests (length lane.live) then Some LaneFull else None
 
 -- the first rule that an input breaks
 abbrev pub lane_rule : LaneView → LaneInput → Option EventRule
-lane_rule lane (Write table token cell snapshot) = begin_rule lane
-lane_rule lane (Read table token snapshot) = begin_rule lane
+lane_rule lane (Write table token cell snapshot) = room_rule lane
+lane_rule lane (Read table token snapshot) = room_rule lane
 lane_rule lane (Take answer) = None
 lane_rule lane (Timeout op) = if is_some (request_of lane.live op) then None else Some NoRequest
 
 -- ---- begins
 
 -- a request goes to replicas, of which so many have to answer, or is answered at once
-pub data Way : Type 0 where
-  Goes : List Replica → ℕ → Way
-  Ends : ClientReply → Way
+pub data LaneWay : Type 0 where
+  Goes : List Replica → ℕ → LaneWay
+  Ends : ClientReply → LaneWay
 
-abbrev pub way_by : Kind → Option Directions → Way
-way_by kind None = Ends NoTable
-way_by ReadKind (Some directions) = Goes directions.reads directions.read_need
-way_by WriteKind (Some directions) = Goes directions.writes directions.write_need
+abbrev pub way_along : Kind → Option Directions → LaneWay
+way_along kind None = Ends NoTable
+way_along ReadKind (Some directions) = Goes directions.reads directions.read_need
+way_along WriteKind (Some directions) = Goes directions.writes directions.write_need
 
 -- the lane's host must be a member, and the table there
-abbrev pub way_in : Topology → HostId → Kind → TableId → ℤ → Way
-way_in state host kind table token =
-    if is_member state.members host then way_by kind (directions_in state table token) else Ends NotMember
+abbrev pub way_from : Topology → HostId → Kind → TableId → ℤ → LaneWay
+way_from state host kind table token =
+    if is_member state.members host then way_along kind (directions_in state table token) else Ends NotMember
 
 -- one ask for each target, in their order, or a reply
-abbrev pub write_out : LaneId → OpId → Version → TableId → Token → Cell → Way → LaneOut
+abbrev pub write_out : LaneId → OpId → Version → TableId → Token → Cell → LaneWay → LaneOut
 write_out lane op version table token cell (Goes targets need) =
-    Writes (map (λ to. record { lane = lane; op = op; version = version; table = table; token = token; cell = cell; to = to }) targets)
+    Writes (map (λ to. record {
+      lane = lane;
+      op = op;
+      version = version;
+      table = table;
+      token = token;
+      cell = cell;
+      to = to;
+    }) targets)
 write_out lane op version table token cell (Ends reply) = Reply op version WriteKind reply
 
-abbrev pub read_out : LaneId → OpId → Version → TableId → Token → Way → LaneOut
+abbrev pub read_out : LaneId → OpId → Version → TableId → Token → LaneWay → LaneOut
 read_out lane op version table token (Goes targets need) =
-    Reads (map (λ to. record { lane = lane; op = op; version = version; table = table; token = token; to = to }) targets)
+    Reads (map (λ to. record {
+      lane = lane;
+      op = op;
+      version = version;
+      table = table;
+      token = token;
+      to = to;
+    }) targets)
 read_out lane op version table token (Ends reply) = Reply op version ReadKind reply
 
 -- the work that begins
-abbrev pub write_work : LaneId → OpId → Way → Option Work
+abbrev pub write_work : LaneId → OpId → LaneWay → Option Work
 write_work lane op (Goes targets need) = Some (Writing (pending_of lane op targets need))
 write_work lane op (Ends reply) = None
 
-abbrev pub read_work : LaneId → OpId → Way → Option Work
+abbrev pub read_work : LaneId → OpId → LaneWay → Option Work
 read_work lane op (Goes targets need) = Some (Reading (pending_read_of lane op targets need))
 read_work lane op (Ends reply) = None
 
@@ -107,7 +122,7 @@ with_next lane snapshot None = record lane { begun = lane.begun + 1 }
 with_next lane snapshot (Some work) =
     record lane {
       begun = lane.begun + 1;
-      live = lane.live ++ (next_op lane, record { version = snapshot.version; held = snapshot; work = work }) ∷ [];
+      live = lane.live ++ (next_request lane, record { version = snapshot.version; held = snapshot; work = work }) ∷ [];
     }
 
 -- ---- answers
@@ -141,9 +156,9 @@ out_given_up op (Some kept) = Reply op kept.version (kind_in kept.work) (timeout
 -- the work that an input leaves to its request
 abbrev pub lane_work : LaneView → LaneInput → Option Work
 lane_work lane (Write table token cell snapshot) =
-    write_work lane.lane (next_op lane) (way_in snapshot lane.lane.host WriteKind table token.value)
+    write_work lane.lane (next_request lane) (way_from snapshot lane.lane.host WriteKind table token.value)
 lane_work lane (Read table token snapshot) =
-    read_work lane.lane (next_op lane) (way_in snapshot lane.lane.host ReadKind table token.value)
+    read_work lane.lane (next_request lane) (way_from snapshot lane.lane.host ReadKind table token.value)
 lane_work lane (Take answer) = work_taking answer (request_of lane.live answer.op)
 lane_work lane (Timeout op) = None
 
@@ -159,9 +174,11 @@ lane_after lane (Timeout op) = record lane { live = without lane.live op }
 -- what the lane gives out
 abbrev pub lane_out : LaneView → LaneInput → LaneOut
 lane_out lane (Write table token cell snapshot) =
-    write_out lane.lane (next_op lane) snapshot.version table token cell (way_in snapshot lane.lane.host WriteKind table token.value)
+    write_out lane.lane (next_request lane) snapshot.version table token cell
+    (way_from snapshot lane.lane.host WriteKind table token.value)
 lane_out lane (Read table token snapshot) =
-    read_out lane.lane (next_op lane) snapshot.version table token (way_in snapshot lane.lane.host ReadKind table token.value)
+    read_out lane.lane (next_request lane) snapshot.version table token
+    (way_from snapshot lane.lane.host ReadKind table token.value)
 lane_out lane (Take answer) = out_taking answer (request_of lane.live answer.op)
 lane_out lane (Timeout op) = out_given_up op (request_of lane.live op)
 

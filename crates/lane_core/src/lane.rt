@@ -1,6 +1,6 @@
 ghost use Rattle.std.specs.Prelude.{◌≡◌, ◌+◌, ◌<◌, ◌^◌, length, None, Some, IfOk, IfSome, MatchResult};
 ghost use Rattle.request_table.specs.Requests.{is_live_below};
-ghost use Rattle.lane_core.specs.Lane.{lane_first, lane_restarted, next_op, begin_rule, lane_rule, lane_after, lane_out, with_next, live_with, IsFor};
+ghost use Rattle.lane_core.specs.Lane.{lane_first, lane_restarted, next_request, room_rule, lane_rule, lane_after, lane_out, with_next, live_with, IsFor};
 
 use crate::data::{LaneInput, LaneOut};
 use crate::making::{made_given_up, made_read, made_taking, made_write};
@@ -50,7 +50,11 @@ impl Model for LaneCore {
 
     ghost Value = { LaneHolding };
 
-    ghost view = { λ l. record { core = record { lane = l.lane; begun = l.begun; live = l.requests.live }; made = l.made; room = l.requests.room } };
+    ghost view = { λ l. record {
+      core = record { lane = l.lane; begun = l.begun; live = l.requests.live };
+      made = l.made;
+      room = l.requests.room;
+    } };
 
     ghost invariant = { λ l. AreKept l.lane l.begun l.requests.live };
 }
@@ -99,10 +103,11 @@ impl LaneCore {
         self.requests.live_below(version)
     }
 
-    /// Whether the input may happen. The error is the first rule that it breaks: a lane has at most 8 live requests, and
-    /// only a live one is given up.
+    /// Whether the input may happen. The error is the first rule that it breaks: a lane has at most 8 live requests,
+    /// and only a live one is given up.
     pub fn check(&self, input: &LaneInput) -> Result<(), EventRule>
-        ensures { MatchResult result (λ _. lane_rule self.now.core input.now ≡ None) (λ broken. lane_rule self.now.core input.now ≡ Some broken) }
+        ensures { MatchResult result (λ _. lane_rule self.now.core input.now ≡ None)
+            (λ broken. lane_rule self.now.core input.now ≡ Some broken) }
     {
         match input {
             LaneInput::Write { .. } | LaneInput::Read { .. } => self.check_begin(),
@@ -116,7 +121,8 @@ impl LaneCore {
 
     /// Whether a request may begin.
     fn check_begin(&self) -> Result<(), EventRule>
-        ensures { MatchResult result (λ _. begin_rule self.now.core ≡ None) (λ broken. begin_rule self.now.core ≡ Some broken) }
+        ensures { MatchResult result (λ _. room_rule self.now.core ≡ None)
+            (λ broken. room_rule self.now.core ≡ Some broken) }
     {
         if self.requests.len() >= 8 {
             return Err(EventRule::LaneFull);
@@ -128,7 +134,8 @@ impl LaneCore {
     fn make(&self, input: &LaneInput) -> Result<Made, NoMemory>
         requires { IsFor self.now.core input.now }
         ensures made { IfOk result (λ made. made ≡ lane_made self.now.core input.now) }
-        ensures waits { IfOk result (λ made. IfSome made.work (IsWaiting self.now.core.lane (op_of self.now.core input.now))) }
+        ensures waits { IfOk result (λ made.
+            IfSome made.work (IsWaiting self.now.core.lane (op_of self.now.core input.now))) }
     {
         match input {
             LaneInput::Write {
@@ -177,8 +184,8 @@ impl LaneCore {
         Ok(())
     }
 
-    /// Takes all memory that an input needs. Nothing of the lane changes, also at `NoMemory`. An answer in the input is to
-    /// this lane.
+    /// Takes all memory that an input needs. Nothing of the lane changes, also at `NoMemory`. An answer in the input
+    /// is to this lane.
     pub fn prepare(&mut self, input: LaneInput) -> Result<Prepared, NoMemory>
         requires rule { lane_rule self.old.core input ≡ None }
         requires for_it { IsFor self.old.core input }
@@ -215,8 +222,8 @@ impl LaneCore {
     /// Begins the next request, which lives where it has work.
     fn begin(&mut self, snapshot: Shared<Snapshot>, work: Option<Work>)
         requires countable { self.old.core.begun + 1 < 2 ^ 64 }
-        requires room { self.old.room ≡ Some (next_op self.old.core) }
-        requires waits { IfSome work (IsWaiting self.old.core.lane (next_op self.old.core)) }
+        requires room { self.old.room ≡ Some (next_request self.old.core) }
+        requires waits { IfSome work (IsWaiting self.old.core.lane (next_request self.old.core)) }
         ensures { self.new.core ≡ with_next self.old.core snapshot work }
     {
         match work {
@@ -228,8 +235,8 @@ impl LaneCore {
     /// Begins the next request, for which there is room, with this work.
     fn insert(&mut self, snapshot: Shared<Snapshot>, work: Work)
         requires countable { self.old.core.begun + 1 < 2 ^ 64 }
-        requires room { self.old.room ≡ Some (next_op self.old.core) }
-        requires waits { IsWaiting self.old.core.lane (next_op self.old.core) work }
+        requires room { self.old.room ≡ Some (next_request self.old.core) }
+        requires waits { IsWaiting self.old.core.lane (next_request self.old.core) work }
         ensures { self.new.core ≡ with_next self.old.core snapshot (Some work) }
     {
         let op = OpId(self.begun + 1);

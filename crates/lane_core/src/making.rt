@@ -5,7 +5,7 @@ ghost use Rattle.quorum_ops.specs.Pending.{IsUndecided};
 ghost use Rattle.stage_graph.specs.declared.kind.Kind.TheVariants.{Read as ReadKind, Write as WriteKind};
 ghost use Rattle.lane_core.specs.Work.{pending_in};
 ghost use Rattle.lane_core.specs.Kept.{IsWaiting};
-ghost use Rattle.lane_core.specs.Lane.{way_in, write_out, read_out, write_work, read_work, work_taking, out_taking, out_given_up, reply_by};
+ghost use Rattle.lane_core.specs.Lane.{way_from, write_out, read_out, write_work, read_work, work_taking, out_taking, out_given_up, reply_by};
 
 use crate::data::LaneOut;
 use crate::lane::Made;
@@ -30,8 +30,11 @@ pub(crate) fn made_write(
     cell: &Cell,
     snapshot: &Snapshot,
 ) -> Result<Made, NoMemory>
-    ensures out { IfOk result (λ made. made.out ≡ write_out lane op snapshot.now.version table token cell.now (way_in snapshot.now lane.host WriteKind table token.value)) }
-    ensures work { IfOk result (λ made. made.work ≡ write_work lane op (way_in snapshot.now lane.host WriteKind table token.value)) }
+    ensures out { IfOk result (λ made. made.out ≡
+        write_out lane op snapshot.now.version table token cell.now
+        (way_from snapshot.now lane.host WriteKind table token.value)) }
+    ensures work { IfOk result (λ made. made.work ≡
+        write_work lane op (way_from snapshot.now lane.host WriteKind table token.value)) }
     ensures waits { IfOk result (λ made. IfSome made.work (IsWaiting lane op)) }
 {
     let version = snapshot.version();
@@ -67,8 +70,11 @@ pub(crate) fn made_read(
     token: Token,
     snapshot: &Snapshot,
 ) -> Result<Made, NoMemory>
-    ensures out { IfOk result (λ made. made.out ≡ read_out lane op snapshot.now.version table token (way_in snapshot.now lane.host ReadKind table token.value)) }
-    ensures work { IfOk result (λ made. made.work ≡ read_work lane op (way_in snapshot.now lane.host ReadKind table token.value)) }
+    ensures out { IfOk result (λ made. made.out ≡
+        read_out lane op snapshot.now.version table token
+        (way_from snapshot.now lane.host ReadKind table token.value)) }
+    ensures work { IfOk result (λ made. made.work ≡
+        read_work lane op (way_from snapshot.now lane.host ReadKind table token.value)) }
     ensures waits { IfOk result (λ made. IfSome made.work (IsWaiting lane op)) }
 {
     let version = snapshot.version();

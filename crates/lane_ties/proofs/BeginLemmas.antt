@@ -26,7 +26,7 @@ use Rattle.cluster_history.specs.declared.data.Operation.TheVariants.{Read as Re
 use Rattle.history_facts.proofs.BegunLemmas.{answers_of-above, request-next}
 use Rattle.history_facts.proofs.LiveLemmas.{live_ops-begin}
 use Rattle.history_facts.proofs.NameLemmas.{same_lane-refl}
-use Rattle.lane_core.specs.Lane.{IsFor, LaneView, lane_after, lane_rule, most_live, with_next}
+use Rattle.lane_core.specs.Lane.{IsFor, LaneView, lane_after, lane_rule, most_requests, with_next}
 use Rattle.lane_core.specs.declared.work.Work.{Work}
 use Rattle.lane_ties.proofs.HistoryLemmas.{answers_kept, begun_within, kept_stays, member_begun, state_has_version}
 use Rattle.lane_ties.proofs.LaneRules.{view_count}
@@ -168,7 +168,7 @@ begin_after opening history lane operation version state found =
 
 -- ---- the lane plays a begin
 
-begin_rule_none : (lane : LaneView) (operation : Operation) (state : Topology) → nat_le most_live (length lane.live) ≡ false → lane_rule lane (begin_input operation state) ≡ None
+begin_rule_none : (lane : LaneView) (operation : Operation) (state : Topology) → nat_le most_requests (length lane.live) ≡ false → lane_rule lane (begin_input operation state) ≡ None
 begin_rule_none lane (WriteOf table token cell) state room = ap (λ b. if b then Some LaneFull else None) room
 begin_rule_none lane (ReadOf table token) state room = ap (λ b. if b then Some LaneFull else None) room
 
@@ -188,7 +188,7 @@ begin_plays opening history lane operation version state legal fine few found =
     let was : LaneView = lane_view opening history lane in
     let well = begins_well version (floor_of history lane.host) (version_of opening history lane.host) (live_count history lane) fine in
     record {
-      rule = begin_rule_none was operation state (ap (nat_le most_live) (view_count opening history lane legal) ∙ well.room);
+      rule = begin_rule_none was operation state (ap (nat_le most_requests) (view_count opening history lane legal) ∙ well.room);
       fits = begin_fits was operation state (countable (begun_count history lane) (length history) (begun_within history lane) few);
       outputs =
           begin_sent was operation version state (state_has_version opening history version state found)

@@ -16,7 +16,7 @@ use Rattle.cluster_history.specs.History.{History, is_restart_of}
 use Rattle.cluster_history.specs.Legal.{IsLegalHistory, outputs_of}
 use Rattle.cluster_history.specs.Openings.{opening_state}
 use Rattle.cluster_history.specs.Outputs.{begin_outputs}
-use Rattle.cluster_history.specs.Requests.{Request, Way, answers_of, begins, begun_count, begun_ops, is_begin_of, is_event_of, is_live, is_reply_to, live_ops, next_op, replies_to, request_at, request_on, started_request, taken_answer, way_of, with_answer}
+use Rattle.cluster_history.specs.Requests.{Request, Way, answers_of, begins_request, begun_count, begun_ops, is_begin_of, is_event_of, is_live, is_reply_to, live_ops, next_op, replies_to, request_at, request_on, started_request, taken_answer, way_of, with_answer}
 use Rattle.cluster_history.specs.Requests.Way.{Ends, Goes}
 use Rattle.cluster_history.specs.Topology.{accepted_command, log_of, state_of_version}
 use Rattle.cluster_history.specs.declared.data.Entry.{Entry}
@@ -124,7 +124,7 @@ begun_within (entry ∷ history) lane =
 -- ---- a live request has a begin
 
 started_live :
-    (opening : Opening) (history : History) (event : Event) (lane : LaneId) (op : OpId) → begins history event lane op ≡ true →
+    (opening : Opening) (history : History) (event : Event) (lane : LaneId) (op : OpId) → begins_request history event lane op ≡ true →
     (is_event_of lane event && list_any (is_reply_to op) (outputs_of opening history event)) ≡ false → is_some (started_request opening history event) ≡ true
 started_live opening history (Begin by operation version) lane op now silent =
     by_way (way_of opening history by operation version) silent
@@ -153,7 +153,7 @@ started_live opening history event lane op now silent = cc now
 pub live_requested : (opening : Opening) (history : History) (lane : LaneId) (op : OpId) → IsLegalHistory opening history → is_live history lane op ≡ true → is_some (request_at opening history lane op) ≡ true
 live_requested opening [] lane op legal live = cc live
 live_requested opening (entry ∷ history) lane op legal live =
-    (elim (begins history entry.event lane op) as (λ b. begins history entry.event lane op ≡ b → ((b || is_live history lane op) && not (replies_to entry lane op || is_restart_of (ByLane lane) entry.event)) ≡ true → is_some (if b then started_request opening history entry.event else request_at opening history lane op) ≡ true) [
+    (elim (begins_request history entry.event lane op) as (λ b. begins_request history entry.event lane op ≡ b → ((b || is_live history lane op) && not (replies_to entry lane op || is_restart_of (ByLane lane) entry.event)) ≡ true → is_some (if b then started_request opening history entry.event else request_at opening history lane op) ≡ true) [
       | true ↦ λ now on.
           let silent : replies_to entry lane op ≡ false = unreplied (replies_to entry lane op) (is_restart_of (ByLane lane) entry.event) on in
           started_live opening history entry.event lane op now

@@ -15,7 +15,7 @@ use Rattle.cluster_history.specs.Legal.{IsLegalHistory, outputs_of}
 use Rattle.cluster_history.specs.Messages.{key_of, kind_of}
 use Rattle.cluster_history.specs.Openings.{IsValidOpening, opening_state}
 use Rattle.cluster_history.specs.Outputs.{decided_by, reply_list, take_outputs}
-use Rattle.cluster_history.specs.Requests.{Request, answer_to, answers_of, begins, begun_count, is_begin_of, is_event_of, is_live, is_reply_to, live_ops, live_request, replies_to, request_at, started_request, taken_answer, targets_of, with_answer}
+use Rattle.cluster_history.specs.Requests.{Request, answer_to, answers_of, begins_request, begun_count, is_begin_of, is_event_of, is_live, is_reply_to, live_ops, live_request, replies_to, request_at, started_request, taken_answer, targets_of, with_answer}
 use Rattle.cluster_history.specs.Topology.{log_of}
 use Rattle.cluster_history.specs.declared.data.Entry.{Entry}
 use Rattle.cluster_history.specs.declared.data.Event.{Event}
@@ -85,13 +85,13 @@ abbrev Waits : LaneId → OpId → Request → List Answer → Type 0
 Waits lane op request answers = IsUndecided (pending_by lane op request.targets request.need answers)
 
 -- an event that begins a request takes no answer
-begin_takes_none : (history : History) (event : Event) (lane : LaneId) (op : OpId) → begins history event lane op ≡ true → taken_answer history event lane op ≡ None
+begin_takes_none : (history : History) (event : Event) (lane : LaneId) (op : OpId) → begins_request history event lane op ≡ true → taken_answer history event lane op ≡ None
 begin_takes_none history (Begin by operation version) lane op now = refl
 begin_takes_none history event lane op now = cc
 
 begun_undecided :
     (opening : Opening) (history : History) (entry : Entry) (lane : LaneId) (op : OpId) (request : Request) → IsValidOpening opening →
-    IsLegalHistory opening (entry ∷ history) → begins history entry.event lane op ≡ true →
+    IsLegalHistory opening (entry ∷ history) → begins_request history entry.event lane op ≡ true →
     request_at opening (entry ∷ history) lane op ≡ Some request → Waits lane op request (answers_of (entry ∷ history) lane op)
 begun_undecided opening history entry lane op request valid legal now there =
     let parts = both_true (is_begin_of lane entry.event) (op.0 == begun_count history lane + 1) now in
@@ -169,7 +169,7 @@ pub live_undecided :
     is_live history lane op ≡ true → request_at opening history lane op ≡ Some request → Waits lane op request (answers_of history lane op)
 live_undecided opening [] lane op request valid legal live there = cc live
 live_undecided opening (entry ∷ history) lane op request valid legal live there =
-    (elim (begins history entry.event lane op) as (λ b. begins history entry.event lane op ≡ b → (if b then started_request opening history entry.event else request_at opening history lane op) ≡ Some request → Waits lane op request (answers_of (entry ∷ history) lane op)) [
+    (elim (begins_request history entry.event lane op) as (λ b. begins_request history entry.event lane op ≡ b → (if b then started_request opening history entry.event else request_at opening history lane op) ≡ Some request → Waits lane op request (answers_of (entry ∷ history) lane op)) [
       | true ↦ λ now f. begun_undecided opening history entry lane op request valid legal now there
       | false ↦ λ now f.
           let was = live_before history entry lane op (request_begun opening history lane op request f) live in

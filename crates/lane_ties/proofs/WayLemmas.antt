@@ -15,9 +15,9 @@ use Rattle.cluster_history.specs.declared.data.Operation.{Operation}
 use Rattle.cluster_history.specs.declared.data.Operation.TheVariants.{Read as ReadOf, Write as WriteOf}
 use Rattle.cluster_history.specs.declared.data.Message.TheVariants.{Read as ReadSent, Write as WriteSent}
 use Rattle.cluster_history.specs.declared.data.Output.TheVariants.{Sent}
-use Rattle.lane_core.specs.Lane.{LaneView, lane_after, lane_out, lane_work, next_op, read_out, read_work, way_by as way_by_view, way_in as way_in_view, with_next, write_out, write_work}
-use Rattle.lane_core.specs.Lane.{Way as LaneWay}
-use Rattle.lane_core.specs.Lane.Way.{Ends as LaneEnds, Goes as LaneGoes}
+use Rattle.lane_core.specs.Lane.{LaneView, lane_after, lane_out, lane_work, next_request, read_out, read_work, way_along as way_by_view, way_from as way_in_view, with_next, write_out, write_work}
+use Rattle.lane_core.specs.Lane.{LaneWay}
+use Rattle.lane_core.specs.Lane.LaneWay.{Ends as LaneEnds, Goes as LaneGoes}
 use Rattle.lane_core.specs.declared.work.Work.{Work}
 use Rattle.lane_core.specs.declared.work.Work.TheVariants.{Read as Reading}
 use Rattle.lane_ties.specs.LaneTies.{begin_input, lane_outputs, work_by}
@@ -73,15 +73,15 @@ read_sent lane op version table token (Goes route) = map_twice (λ (ask : ReadAs
 
 pub begin_sent :
     (lane : LaneView) (operation : Operation) (version : Version) (state : Topology) → state.version ≡ version →
-    lane_outputs (lane_out lane (begin_input operation state)) ≡ begin_outputs lane.lane (next_op lane) version operation (way_in (Some state) lane.lane.host operation)
+    lane_outputs (lane_out lane (begin_input operation state)) ≡ begin_outputs lane.lane (next_request lane) version operation (way_in (Some state) lane.lane.host operation)
 begin_sent lane (WriteOf table token cell) version state at =
-    ap (λ way. lane_outputs (write_out lane.lane (next_op lane) state.version table token cell way)) (way_alike state lane.lane.host (WriteOf table token cell))
-    ∙ write_sent lane.lane (next_op lane) state.version table token cell (way_in (Some state) lane.lane.host (WriteOf table token cell))
-    ∙ ap (λ v. begin_outputs lane.lane (next_op lane) v (WriteOf table token cell) (way_in (Some state) lane.lane.host (WriteOf table token cell))) at
+    ap (λ way. lane_outputs (write_out lane.lane (next_request lane) state.version table token cell way)) (way_alike state lane.lane.host (WriteOf table token cell))
+    ∙ write_sent lane.lane (next_request lane) state.version table token cell (way_in (Some state) lane.lane.host (WriteOf table token cell))
+    ∙ ap (λ v. begin_outputs lane.lane (next_request lane) v (WriteOf table token cell) (way_in (Some state) lane.lane.host (WriteOf table token cell))) at
 begin_sent lane (ReadOf table token) version state at =
-    ap (λ way. lane_outputs (read_out lane.lane (next_op lane) state.version table token way)) (way_alike state lane.lane.host (ReadOf table token))
-    ∙ read_sent lane.lane (next_op lane) state.version table token (way_in (Some state) lane.lane.host (ReadOf table token))
-    ∙ ap (λ v. begin_outputs lane.lane (next_op lane) v (ReadOf table token) (way_in (Some state) lane.lane.host (ReadOf table token))) at
+    ap (λ way. lane_outputs (read_out lane.lane (next_request lane) state.version table token way)) (way_alike state lane.lane.host (ReadOf table token))
+    ∙ read_sent lane.lane (next_request lane) state.version table token (way_in (Some state) lane.lane.host (ReadOf table token))
+    ∙ ap (λ v. begin_outputs lane.lane (next_request lane) v (ReadOf table token) (way_in (Some state) lane.lane.host (ReadOf table token))) at
 
 -- ---- what a begin leaves
 
@@ -111,13 +111,13 @@ read_begun lane op version table token (Goes route) =
 
 begin_work :
     (lane : LaneView) (operation : Operation) (version : Version) (state : Topology) →
-    lane_work lane (begin_input operation state) ≡ begun_work lane.lane (next_op lane) operation version (way_in (Some state) lane.lane.host operation)
+    lane_work lane (begin_input operation state) ≡ begun_work lane.lane (next_request lane) operation version (way_in (Some state) lane.lane.host operation)
 begin_work lane (WriteOf table token cell) version state =
-    ap (write_work lane.lane (next_op lane)) (way_alike state lane.lane.host (WriteOf table token cell))
-    ∙ write_begun lane.lane (next_op lane) version table token cell (way_in (Some state) lane.lane.host (WriteOf table token cell))
+    ap (write_work lane.lane (next_request lane)) (way_alike state lane.lane.host (WriteOf table token cell))
+    ∙ write_begun lane.lane (next_request lane) version table token cell (way_in (Some state) lane.lane.host (WriteOf table token cell))
 begin_work lane (ReadOf table token) version state =
-    ap (read_work lane.lane (next_op lane)) (way_alike state lane.lane.host (ReadOf table token))
-    ∙ read_begun lane.lane (next_op lane) version table token (way_in (Some state) lane.lane.host (ReadOf table token))
+    ap (read_work lane.lane (next_request lane)) (way_alike state lane.lane.host (ReadOf table token))
+    ∙ read_begun lane.lane (next_request lane) version table token (way_in (Some state) lane.lane.host (ReadOf table token))
 
 begin_next : (lane : LaneView) (operation : Operation) (state : Topology) → lane_after lane (begin_input operation state) ≡ with_next lane state (lane_work lane (begin_input operation state))
 begin_next lane (WriteOf table token cell) state = refl
@@ -125,6 +125,6 @@ begin_next lane (ReadOf table token) state = refl
 
 pub begin_left :
     (lane : LaneView) (operation : Operation) (version : Version) (state : Topology) →
-    lane_after lane (begin_input operation state) ≡ with_next lane state (begun_work lane.lane (next_op lane) operation version (way_in (Some state) lane.lane.host operation))
+    lane_after lane (begin_input operation state) ≡ with_next lane state (begun_work lane.lane (next_request lane) operation version (way_in (Some state) lane.lane.host operation))
 begin_left lane operation version state =
     begin_next lane operation state ∙ ap (with_next lane state) (begin_work lane operation version state)

@@ -17,7 +17,7 @@ use Rattle.tablet_map.specs.Sets.{selected}
 use Rattle.tablet_map.proofs.Joined.{not_true, or_first}
 use Rattle.tablet_map.proofs.Members.{is_same}
 use Rattle.tablet_map.proofs.Counts.{count_same}
-use Rattle.topo_state.specs.Lists.{Cleaned, Leaving, Nobody, Pending, cleaned_by, cleans}
+use Rattle.topo_state.specs.Lists.{Cleaned, Leaving, Nobody, Pending, cleaned_by, cleaned_side}
 use Rattle.log_law.specs.Steps.{Advances, Finishes, Regroups, Reverts, Starts, Stays, ViewStep}
 use Rattle.log_law.proofs.Turns.{Frame}
 
@@ -63,7 +63,7 @@ frame_moving list t to moves =
       comes = inl (not_true (has_host list t.pending.host) moves.comes);
       old_counts = λ s test. refl;
       new_counts = λ s test. ap (count_by test) (same_selected s list t to);
-      cleaned = λ x. same_cleaned (cleans (Some to)) t to x;
+      cleaned = λ x. same_cleaned (cleaned_side (Some to)) t to x;
     }
 
 frame_start : (list : List Replica) (t : Transition) → CanMove list t.leaving t.pending → Frame (at_rest list) (with_move list t)

@@ -22,7 +22,7 @@ use Rattle.topo_state.specs.Moves.{move_at, move_by, move_in, move_of}
 use Rattle.topo_state.specs.Sessions.{SessionPlace, place_of_session, place_or_later}
 use Rattle.topo_state.specs.Sound.{IsTopology}
 use Rattle.topo_state.specs.State.{Topology}
-use Rattle.topo_state.specs.Tables.{are_distinct, at_token, has_id, placed_tablet, table_in}
+use Rattle.topo_state.specs.Tables.{have_distinct_ids, at_token, has_id, placed_tablet, table_in}
 use Rattle.group0_log.specs.Log.{IsLegalLog, state_at}
 use Rattle.log_law.specs.Relocations.{IsMoveOf}
 use Rattle.log_law.proofs.LoggedRelocations.{IsStill}
@@ -74,12 +74,12 @@ move_by_place t rest session m None alone e h later =
       moving = one.moving;
     }
 
-pub found_move : (tables : List Table) (session : Session) (m : Move) → are_distinct tables ≡ true → move_in tables session ≡ Some m → IsFoundMove tables session m
+pub found_move : (tables : List Table) (session : Session) (m : Move) → have_distinct_ids tables ≡ true → move_in tables session ≡ Some m → IsFoundMove tables session m
 found_move [] session m distinct h = cc h
 found_move (t ∷ rest) session m distinct h =
     move_by_place t rest session m (position (has_session session) t.map.list)
-    (not_true (list_any (has_id t.id) rest) (and_left (not (list_any (has_id t.id) rest)) (are_distinct rest) distinct)) refl h
-    (λ k. found_move rest session m (and_right (not (list_any (has_id t.id) rest)) (are_distinct rest) distinct) k)
+    (not_true (list_any (has_id t.id) rest) (and_left (not (list_any (has_id t.id) rest)) (have_distinct_ids rest) distinct)) refl h
+    (λ k. found_move rest session m (and_right (not (list_any (has_id t.id) rest)) (have_distinct_ids rest) distinct) k)
 
 no_move_here : (t : Table) (rest : List Table) (session : Session) (n : ℕ) → position (has_session session) t.map.list ≡ Some n → (o : Option Transition) → (tablet_in t.map.list n).transition ≡ o → option_or (move_by t n o) (move_in rest session) ≡ None → ⊥
 no_move_here t rest session n first None e h =

@@ -17,8 +17,8 @@ use Rattle.tablet_map.specs.Tablets.{IsSound}
 use Rattle.tablet_map.specs.Sets.{selected}
 use Rattle.tablet_map.proofs.Joined.{and_left, and_right, is_false}
 use Rattle.tablet_map.proofs.Counts.{one_if}
-use Rattle.topo_state.specs.Lists.{Cleaned, Leaving, Nobody, Pending, chosen, cleanable_in, cleaned_by, cleans, is_both, is_cleanable, reads_of, stage_in, writes_both, writes_of}
-use Rattle.log_law.specs.Pairs.{CleaningGoesOn, HasNoCleanable, IsAlike, IsPair, IsSameMove, Matters, NewList, OwnList, ReadBefore, ReadNow, ReadsGoOn, ReadsNew, ReadsOldAgain, SameReads, StaysCleanable, cleanable_host_in, cleaned_host, is_cleanable_host}
+use Rattle.topo_state.specs.Lists.{Cleaned, Leaving, Nobody, Pending, chosen, cleanable_in, cleaned_by, cleaned_side, is_both, is_cleanable, reads_of, stage_in, writes_both, writes_of}
+use Rattle.log_law.specs.Pairs.{CleaningGoesOn, HasNoCleanable, IsAlike, IsPair, IsSameMove, Matters, NewList, OwnList, ReadBefore, ReadNow, ReadsGoOn, ReadsNew, ReadsOldAgain, SameReads, StaysCleanable, cleanable_host_in, is_cleaned_host, is_cleanable_host}
 use Rattle.log_law.specs.Steps.{Advances, Finishes, Regroups, Reverts, Starts, Stays, ViewStep}
 use Rattle.log_law.proofs.FrameLemmas.{framed}
 use Rattle.log_law.proofs.TurnLemmas.{all_carry, all_miss, all_stay, at_step, carried, count_first, count_if_none, count_less, missed, same_is}
@@ -65,9 +65,9 @@ record IsChosen (old : Tablet) (new : Tablet) (move : Transition) (written : Sel
   selector : Selector
   counts : (test : Replica → Bool) → count_by test list ≡ count_by test (selected selector old.replicas move)
   carries : carries written selector ≡ true
-  misses : misses (cleans (stage_in new)) selector ≡ true
+  misses : misses (cleaned_side (stage_in new)) selector ≡ true
 
-chosen_one : (old new written : Tablet) (frame : Frame old new) (w : Selector) → Each (carries w) (stage_in old) (stage_in new) (writes_both written) → Each (misses (cleans (stage_in new))) (stage_in old) (stage_in new) true → (list : List Replica) → Matters old new written list → IsChosen old new frame.move w list
+chosen_one : (old new written : Tablet) (frame : Frame old new) (w : Selector) → Each (carries w) (stage_in old) (stage_in new) (writes_both written) → Each (misses (cleaned_side (stage_in new))) (stage_in old) (stage_in new) true → (list : List Replica) → Matters old new written list → IsChosen old new frame.move w list
 chosen_one old new written frame w can free list ReadBefore =
     record { selector = turn_old (stage_in old) (reads (stage_in old)); counts = frame.old_counts (reads (stage_in old)); carries = can.read_old; misses = free.read_old }
 chosen_one old new written frame w can free list ReadNow =
@@ -80,17 +80,17 @@ chosen_one old new written frame w can free list (NewList p q) =
 kept_by_replicas : (old new : Tablet) → IsSound old → (frame : Frame old new) (w : Selector) (list : List Replica) → IsChosen old new frame.move w list → (test : Replica → Bool) (n : ℕ) → n + extra w ≤ count_by test (selected w old.replicas frame.move) → n ≤ count_by (λ r. test r && not (is_cleanable new r)) list
 kept_by_replicas old new sound frame w list one test n h =
     let enough : n ≤ count_by test (selected one.selector old.replicas frame.move) = carried w one.selector old.replicas frame.move test n one.carries frame.leaves h in
-    let none : count_by (cleaned_by (cleans (stage_in new)) frame.move) (selected one.selector old.replicas frame.move) ≡ 0 =
-    missed (cleans (stage_in new)) one.selector old.replicas frame.move one.misses sound.replicas.distinct frame.leaves frame.comes in
+    let none : count_by (cleaned_by (cleaned_side (stage_in new)) frame.move) (selected one.selector old.replicas frame.move) ≡ 0 =
+    missed (cleaned_side (stage_in new)) one.selector old.replicas frame.move one.misses sound.replicas.distinct frame.leaves frame.comes in
     let away : count_by (is_cleanable new) list ≡ 0 =
-    count_ext (is_cleanable new) (cleaned_by (cleans (stage_in new)) frame.move) frame.cleaned list ∙ (one.counts (cleaned_by (cleans (stage_in new)) frame.move) ∙ none) in
+    count_ext (is_cleanable new) (cleaned_by (cleaned_side (stage_in new)) frame.move) frame.cleaned list ∙ (one.counts (cleaned_by (cleaned_side (stage_in new)) frame.move) ∙ none) in
     let same : count_by (λ r. test r && not (is_cleanable new r)) list ≡ count_by test list = count_less test (is_cleanable new) list away in
     let there : count_by test list ≡ count_by test (selected one.selector old.replicas frame.move) = one.counts test in omega (arith, enough, same, there)
 
-away_from : (old new : Tablet) → IsSound old → (frame : Frame old new) (s : Selector) (list : List Replica) → ((test : Replica → Bool) → count_by test list ≡ count_by test (selected s old.replicas frame.move)) → misses (cleans (stage_in new)) s ≡ true → count_by (is_cleanable new) list ≡ 0
+away_from : (old new : Tablet) → IsSound old → (frame : Frame old new) (s : Selector) (list : List Replica) → ((test : Replica → Bool) → count_by test list ≡ count_by test (selected s old.replicas frame.move)) → misses (cleaned_side (stage_in new)) s ≡ true → count_by (is_cleanable new) list ≡ 0
 away_from old new sound frame s list counts free =
-    count_ext (is_cleanable new) (cleaned_by (cleans (stage_in new)) frame.move) frame.cleaned list ∙
-    (counts (cleaned_by (cleans (stage_in new)) frame.move) ∙ missed (cleans (stage_in new)) s old.replicas frame.move free sound.replicas.distinct frame.leaves frame.comes)
+    count_ext (is_cleanable new) (cleaned_by (cleaned_side (stage_in new)) frame.move) frame.cleaned list ∙
+    (counts (cleaned_by (cleaned_side (stage_in new)) frame.move) ∙ missed (cleaned_side (stage_in new)) s old.replicas frame.move free sound.replicas.distinct frame.leaves frame.comes)
 
 -- hosts and counts
 
@@ -121,14 +121,14 @@ alike a b same =
           ] refl;
     }
 
-cleaned_of_host : (c : Cleaned) (t : Transition) (r : Replica) → cleaned_by c t r ≡ cleaned_host c t r.host
+cleaned_of_host : (c : Cleaned) (t : Transition) (r : Replica) → cleaned_by c t r ≡ is_cleaned_host c t r.host
 cleaned_of_host Nobody t r = refl
 cleaned_of_host Leaving t r = refl
 cleaned_of_host Pending t r = refl
 
 cleanable_by_cases : (o : Option Transition) (r : Replica) → cleanable_in o r ≡ cleanable_host_in o r.host
 cleanable_by_cases None r = refl
-cleanable_by_cases (Some t) r = cleaned_of_host (cleans (Some t.stage)) t r
+cleanable_by_cases (Some t) r = cleaned_of_host (cleaned_side (Some t.stage)) t r
 
 -- a replica may be cleaned where its host may
 pub cleanable_of_host : (tablet : Tablet) (r : Replica) → is_cleanable tablet r ≡ is_cleanable_host tablet r.host
@@ -145,10 +145,10 @@ no_cleanable tablet list none =
           absurd (omega (arith, some, none))));
     }
 
-nobody_by_cases : (o : Option Transition) (host : HostId) → is_nobody (cleans (option_map (λ (t : Transition). t.stage) o)) ≡ true → cleanable_host_in o host ≡ false
+nobody_by_cases : (o : Option Transition) (host : HostId) → is_nobody (cleaned_side (option_map (λ (t : Transition). t.stage) o)) ≡ true → cleanable_host_in o host ≡ false
 nobody_by_cases None host h = refl
 nobody_by_cases (Some t) host h =
-    elim (cleans (Some t.stage)) as (λ c. is_nobody c ≡ true → cleaned_host c t host ≡ false)
+    elim (cleaned_side (Some t.stage)) as (λ c. is_nobody c ≡ true → is_cleaned_host c t host ≡ false)
     [ Nobody ↦ λ k. refl | Leaving ↦ λ k. cc k | Pending ↦ λ k. cc k ] h
 
 kept : (old new : Tablet) → IsSound old → (frame : Frame old new) (w : Selector) (list : List Replica) → IsChosen old new frame.move w list → (test : Replica → Bool) (n : ℕ) → n + extra w ≤ count_by test (selected w old.replicas frame.move) → n ≤ count_by (λ (r : Replica). test r && not (is_cleanable_host new r.host)) list
@@ -177,11 +177,11 @@ first_both_cases : (from to : Option Stage) → is_first_both from to ≡ true �
 first_both_cases (Some AllowWriteBothReadOld) (Some WriteBothReadOld) h = (refl, refl)
 first_both_cases from to h = cc h
 
-after_cleanup : (to : Stage) → next_ok Cleanup (Some to) ≡ true → cleans (Some to) ≡ Leaving
+after_cleanup : (to : Stage) → next_ok Cleanup (Some to) ≡ true → cleaned_side (Some to) ≡ Leaving
 after_cleanup EndMigration h = refl
 after_cleanup to h = cc
 
-after_target : (to : Stage) → next_ok CleanupTarget (Some to) ≡ true → cleans (Some to) ≡ Pending
+after_target : (to : Stage) → next_ok CleanupTarget (Some to) ≡ true → cleaned_side (Some to) ≡ Pending
 after_target RevertMigration h = refl
 after_target to h = cc
 
@@ -217,7 +217,7 @@ reads_go_on i old new frame step =
           ]
     ]
 
-free_list : (old new written : Tablet) → IsSound old → (frame : Frame old new) → Each (misses (cleans (stage_in new))) (stage_in old) (stage_in new) true → (list : List Replica) → Matters old new written list → HasNoCleanable new list
+free_list : (old new written : Tablet) → IsSound old → (frame : Frame old new) → Each (misses (cleaned_side (stage_in new))) (stage_in old) (stage_in new) true → (list : List Replica) → Matters old new written list → HasNoCleanable new list
 free_list old new written sound frame free list ReadBefore =
     no_cleanable new list (away_from old new sound frame (turn_old (stage_in old) (reads (stage_in old))) list (frame.old_counts (reads (stage_in old))) free.read_old)
 free_list old new written sound frame free list ReadNow =
@@ -277,12 +277,12 @@ begun_both i old new frame step p q =
 some_is : (o : Option Transition) (a b : Transition) → o ≡ Some a → o ≡ Some b → a ≡ b
 some_is o a b p q = (let e : Some a ≡ Some b = sym p ∙ q in cc e)
 
-same_cleaned_host : (c : Cleaned) (a b : Transition) → IsSameMove a b → (host : HostId) → cleaned_host c b host ≡ cleaned_host c a host
+same_cleaned_host : (c : Cleaned) (a b : Transition) → IsSameMove a b → (host : HostId) → is_cleaned_host c b host ≡ is_cleaned_host c a host
 same_cleaned_host Nobody a b same host = refl
 same_cleaned_host Leaving a b same host = ap (λ (r : Replica). eqb r.host.0 host.0) same.leaving
 same_cleaned_host Pending a b same host = ap (λ (r : Replica). eqb r.host.0 host.0) same.pending
 
-stays_cleanable : (t u : Transition) (old new : Tablet) → old.transition ≡ Some t → new.transition ≡ Some u → IsSameMove t u → cleans (Some u.stage) ≡ cleans (Some t.stage) → StaysCleanable t old new
+stays_cleanable : (t u : Transition) (old new : Tablet) → old.transition ≡ Some t → new.transition ≡ Some u → IsSameMove t u → cleaned_side (Some u.stage) ≡ cleaned_side (Some t.stage) → StaysCleanable t old new
 stays_cleanable t u old new was now same cleaned =
     record {
       move = u;
@@ -291,8 +291,8 @@ stays_cleanable t u old new was now same cleaned =
       cleaned = cleaned;
       hosts = λ host.
           ap (λ (o : Option Transition). cleanable_host_in o host) now ∙
-          (ap (λ c. cleaned_host c u host) cleaned ∙
-          (same_cleaned_host (cleans (Some t.stage)) t u same host ∙ sym (ap (λ (o : Option Transition). cleanable_host_in o host) was)));
+          (ap (λ c. is_cleaned_host c u host) cleaned ∙
+          (same_cleaned_host (cleaned_side (Some t.stage)) t u same host ∙ sym (ap (λ (o : Option Transition). cleanable_host_in o host) was)));
     }
 
 cleaning_goes_on : (i : ℕ) (old new : Tablet) → ViewStep i old new → CleaningGoesOn old new
@@ -305,8 +305,8 @@ cleaning_goes_on i old new (Advances u to moving ok e) t was at =
     stays_cleanable t (record u { stage = to }) old new was (ap (λ (x : Tablet). x.transition) e)
     (record { leaving = ap (λ (x : Transition). x.leaving) is; pending = ap (λ (x : Transition). x.pending) is; session = ap (λ (x : Transition). x.session) is })
     (elim at [
-      | inl c ↦ after_cleanup to (ap (λ s. next_ok s (Some to)) (sym c) ∙ may) ∙ ap (λ s. cleans (Some s)) (sym c)
-      | inr c ↦ after_target to (ap (λ s. next_ok s (Some to)) (sym c) ∙ may) ∙ ap (λ s. cleans (Some s)) (sym c)
+      | inl c ↦ after_cleanup to (ap (λ s. next_ok s (Some to)) (sym c) ∙ may) ∙ ap (λ s. cleaned_side (Some s)) (sym c)
+      | inr c ↦ after_target to (ap (λ s. next_ok s (Some to)) (sym c) ∙ may) ∙ ap (λ s. cleaned_side (Some s)) (sym c)
     ])
 cleaning_goes_on i old new (Finishes u moving last e) t was at =
     let is : u ≡ t = some_is old.transition u t moving was in
@@ -333,7 +333,7 @@ pair_of_step i old new sound later step =
     let wn : Selector = turn_new from to (writes to) in
     let miss : lists_miss from to ≡ true = at_step lists_miss all_miss i old new step in
     let carry : lists_carry from to ≡ true = at_step lists_carry all_carry i old new step in
-    let free : Each (misses (cleans to)) from to true = each_parts (misses (cleans to)) from to true (and_left (each_list (misses (cleans to)) from to true) (misses (cleans to) wn) miss) in
+    let free : Each (misses (cleaned_side to)) from to true = each_parts (misses (cleaned_side to)) from to true (and_left (each_list (misses (cleaned_side to)) from to true) (misses (cleaned_side to) wn) miss) in
     let first : Bool = each_list (carries wo) from to (is_both (writes from)) && same_extra wo (writes from) in
     let second : Bool = each_list (carries wn) from to (is_both (writes to)) && same_extra wn (writes to) in
     let a : first ≡ true = and_left first second carry in
@@ -353,8 +353,8 @@ pair_of_step i old new sound later step =
       spares = record {
         read_before = no_cleanable new (reads_of old) (away_from old new sound frame (turn_old from (reads from)) (reads_of old) (frame.old_counts (reads from)) free.read_old);
         read_now = no_cleanable new (reads_of new) (away_from old new sound frame (turn_new from to (reads to)) (reads_of new) (frame.new_counts (reads to)) free.read_new);
-        written_now = no_cleanable new (writes_of new) (away_from old new sound frame wn (writes_of new) (frame.new_counts (writes to)) (and_right (each_list (misses (cleans to)) from to true) (misses (cleans to) wn) miss));
-        both = λ p host. nobody_by_cases new.transition host (implied (is_both (writes to)) (is_nobody (cleans to)) (at_step both_spares all_spare i old new step) p);
+        written_now = no_cleanable new (writes_of new) (away_from old new sound frame wn (writes_of new) (frame.new_counts (writes to)) (and_right (each_list (misses (cleaned_side to)) from to true) (misses (cleaned_side to) wn) miss));
+        both = λ p host. nobody_by_cases new.transition host (implied (is_both (writes to)) (is_nobody (cleaned_side to)) (at_step both_spares all_spare i old new step) p);
       };
       cleaning = cleaning_goes_on i old new step;
       free = λ written list matters. free_list old new written sound frame free list matters;

@@ -35,7 +35,7 @@ use Rattle.topo_state.specs.Views.{view}
 use Rattle.topo_state.proofs.Passed.{FinalizePasses, StartPasses, advance_passes, finalize_passes, named, start_passes}
 use Rattle.topo_state.proofs.TableLemmas.{none_of, table_in-id, table_then, tablet_in-map, tablet_in-other, tablet_in-set}
 use Rattle.group0_log.specs.Log.{IsAccepted}
-use Rattle.log_law.specs.Steps.{Advances, Finishes, GoesOn, Regroups, Reverts, Starts, Stays, ViewStep}
+use Rattle.log_law.specs.Steps.{Advances, Finishes, ViewGoesOn, Regroups, Reverts, Starts, Stays, ViewStep}
 use Rattle.log_law.proofs.ShownLemmas.{all_rest, resized_rest}
 
 pub unmoved : (i : ℕ) (t : Tablet) → ViewStep i t t
@@ -157,9 +157,9 @@ table_step s (FinalizeResize x seq) i ok id t e table token =
     (λ _. unmoved i (placed_tablet (at_token token.value) t))
 
 -- A view goes on over each accepted command.
-pub view_step : (s : Topology) (c : Command) (i : ℕ) → IsAccepted s c → IsState s → (id : TableId) (token : Token) (old : Tablet) → view s id token.value ≡ Some old → GoesOn i old (view (after s c i) id token.value)
+pub view_step : (s : Topology) (c : Command) (i : ℕ) → IsAccepted s c → IsState s → (id : TableId) (token : Token) (old : Tablet) → view s id token.value ≡ Some old → ViewGoesOn i old (view (after s c i) id token.value)
 view_step s c i ok state id token old shown =
-    elim (table_in s.tables id) as (λ o. table_in s.tables id ≡ o → option_map (placed_tablet (at_token token.value)) o ≡ Some old → GoesOn i old (view (after s c i) id token.value)) [
+    elim (table_in s.tables id) as (λ o. table_in s.tables id ≡ o → option_map (placed_tablet (at_token token.value)) o ≡ Some old → ViewGoesOn i old (view (after s c i) id token.value)) [
       | None ↦ λ e h. cc h
       | Some t ↦ λ e h.
           let is : placed_tablet (at_token token.value) t ≡ old = cc h in

@@ -11,7 +11,7 @@ use Rattle.stage_graph.specs.Rules.{every, every_move}
 use Rattle.tablet_map.specs.declared.tablet.Tablet.{Tablet}
 use Rattle.tablet_map.specs.declared.tablet.Transition.{Transition}
 use Rattle.tablet_map.specs.Sets.{selected}
-use Rattle.topo_state.specs.Lists.{Cleaned, Leaving, Nobody, Pending, chosen, cleaned_by, cleans, is_both, is_cleanable, stage_in}
+use Rattle.topo_state.specs.Lists.{Cleaned, Leaving, Nobody, Pending, chosen, cleaned_by, cleaned_side, is_both, is_cleanable, stage_in}
 
 -- What a selector of the older view and of the newer one chooses there: where there is no transition the old list,
 -- and behind the last stage the new one.
@@ -71,7 +71,7 @@ each_list test from to mine =
     test (turn_old from (reads from)) && (test (turn_new from to (reads to)) && (implies (is_both (writes to)) (test (turn_new from to Old)) && implies (is_both (writes to) && mine) (test (turn_new from to New))))
 
 abbrev pub lists_miss : Option Stage → Option Stage → Bool
-lists_miss from to = each_list (misses (cleans to)) from to true && misses (cleans to) (turn_new from to (writes to))
+lists_miss from to = each_list (misses (cleaned_side to)) from to true && misses (cleaned_side to) (turn_new from to (writes to))
 
 abbrev pub same_extra : Selector → Selector → Bool
 same_extra a b = extra a == extra b
@@ -104,13 +104,13 @@ is_nobody Nobody = true
 is_nobody _ = false
 
 abbrev pub both_spares : Option Stage → Option Stage → Bool
-both_spares from to = implies (is_both (writes to)) (is_nobody (cleans to))
+both_spares from to = implies (is_both (writes to)) (is_nobody (cleaned_side to))
 
 -- The lists of both views are lists of one move of the older view's list.
 pub record Frame (old : Tablet) (new : Tablet) : Type 0 where
   pub move : Transition
   pub leaves : has_replica old.replicas move.leaving ≡ true
-  pub comes : (has_host old.replicas move.pending.host ≡ false) ⊎ (cleans (stage_in new) ≡ Nobody)
+  pub comes : (has_host old.replicas move.pending.host ≡ false) ⊎ (cleaned_side (stage_in new) ≡ Nobody)
   pub old_counts : (selector : Selector) (test : Replica → Bool) → count_by test (chosen selector old) ≡ count_by test (selected (turn_old (stage_in old) selector) old.replicas move)
   pub new_counts : (selector : Selector) (test : Replica → Bool) → count_by test (chosen selector new) ≡ count_by test (selected (turn_new (stage_in old) (stage_in new) selector) old.replicas move)
-  pub cleaned : (replica : Replica) → is_cleanable new replica ≡ cleaned_by (cleans (stage_in new)) move replica
+  pub cleaned : (replica : Replica) → is_cleanable new replica ≡ cleaned_by (cleaned_side (stage_in new)) move replica

@@ -9,17 +9,17 @@ use Rattle.stage_graph.specs.declared.table.Selector.TheVariants.{Old, New}
 use Rattle.stage_graph.specs.Table.{writes, extra}
 use Rattle.tablet_map.specs.declared.tablet.Tablet.{Tablet}
 use Rattle.tablet_map.specs.declared.tablet.Transition.{Transition}
-use Rattle.topo_state.specs.Lists.{stage_in, chosen, reads_of, writes_of, writes_both, Cleaned, Nobody, Leaving, Pending, cleans, is_cleanable}
+use Rattle.topo_state.specs.Lists.{stage_in, chosen, reads_of, writes_of, writes_both, Cleaned, Nobody, Leaving, Pending, cleaned_side, is_cleanable}
 
 -- the host that may be cleaned, by what a stage cleans
-abbrev pub cleaned_host : Cleaned → Transition → HostId → Bool
-cleaned_host Nobody t host = false
-cleaned_host Leaving t host = same_host t.leaving.host host
-cleaned_host Pending t host = same_host t.pending.host host
+abbrev pub is_cleaned_host : Cleaned → Transition → HostId → Bool
+is_cleaned_host Nobody t host = false
+is_cleaned_host Leaving t host = same_host t.leaving.host host
+is_cleaned_host Pending t host = same_host t.pending.host host
 
 abbrev pub cleanable_host_in : Option Transition → HostId → Bool
 cleanable_host_in None host = false
-cleanable_host_in (Some t) host = cleaned_host (cleans (Some t.stage)) t host
+cleanable_host_in (Some t) host = is_cleaned_host (cleaned_side (Some t.stage)) t host
 
 -- a host may be cleaned of a tablet, or may have been cleaned of it at the version before
 abbrev pub is_cleanable_host : Tablet → HostId → Bool
@@ -74,7 +74,7 @@ pub record StaysCleanable (t : Transition) (old : Tablet) (new : Tablet) : Type 
   pub move : Transition
   pub moving : new.transition ≡ Some move
   pub same : IsSameMove t move
-  pub cleaned : cleans (Some move.stage) ≡ cleans (Some t.stage)
+  pub cleaned : cleaned_side (Some move.stage) ≡ cleaned_side (Some t.stage)
   pub hosts : (host : HostId) → is_cleanable_host new host ≡ is_cleanable_host old host
 
 -- A move that is being cleaned up does not end at the next step.

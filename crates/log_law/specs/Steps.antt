@@ -27,7 +27,7 @@ pub data ViewStep (index : ℕ) (old : Tablet) (new : Tablet) : Type 0 where
       ViewStep index old new
 
 -- the view goes on over the command of this index
-pub record GoesOn (index : ℕ) (old : Tablet) (view : Option Tablet) : Type 0 where
+pub record ViewGoesOn (index : ℕ) (old : Tablet) (view : Option Tablet) : Type 0 where
   pub new : Tablet
   pub here : view ≡ Some new
   pub step : ViewStep index old new

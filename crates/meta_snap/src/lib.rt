@@ -1,5 +1,5 @@
-//! Where requests go in one state of the topology. A snapshot is made once for a version; a request then lends its lists of
-//! replicas from it.
+//! Where requests go in one state of the topology. A snapshot is made once for a version; a request then lends its
+//! lists of replicas from it.
 #![tactic(auto)]
 
 mod lists;

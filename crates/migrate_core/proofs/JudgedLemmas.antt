@@ -23,7 +23,7 @@ use Rattle.topo_state.specs.declared.data.Table.{Table}
 use Rattle.topo_state.specs.State.{Topology}
 use Rattle.topo_state.specs.Sound.{IsTopology}
 use Rattle.topo_state.specs.Sessions.{SessionPlace, place_of_session, place_or_later}
-use Rattle.topo_state.specs.Tables.{table_in, has_id, are_distinct, any_tablet, every_tablet}
+use Rattle.topo_state.specs.Tables.{table_in, has_id, have_distinct_ids, any_tablet, every_tablet}
 use Rattle.topo_state.specs.Rules.{rule, may_go}
 use Rattle.migrate_core.specs.declared.next.Next.TheVariants.{Propose}
 use Rattle.migrate_core.specs.Laws.{IsFoundOnce}
@@ -64,13 +64,13 @@ moves_somewhere state session t found =
 same_itself : (id : TableId) → same_table id id ≡ true
 same_itself id = grind (arith, nat_tests)
 
-found_itself : (tables : List Table) (k : ℕ) (d : Table) → are_distinct tables ≡ true → k < length tables → table_in tables (get_or tables k d).id ≡ Some (get_or tables k d)
+found_itself : (tables : List Table) (k : ℕ) (d : Table) → have_distinct_ids tables ≡ true → k < length tables → table_in tables (get_or tables k d).id ≡ Some (get_or tables k d)
 found_itself [] k d distinct below = absurd (omega arith)
 found_itself (table ∷ rest) zero d distinct below =
     ap (λ b. cond b (Some table) (table_in rest table.id)) (same_itself table.id)
 found_itself (table ∷ rest) (suc k) d distinct below =
-    let alone : list_any (has_id table.id) rest ≡ false = not_true (list_any (has_id table.id) rest) (and_left (not (list_any (has_id table.id) rest)) (are_distinct rest) distinct) in
-    let others : are_distinct rest ≡ true = and_right (not (list_any (has_id table.id) rest)) (are_distinct rest) distinct in
+    let alone : list_any (has_id table.id) rest ≡ false = not_true (list_any (has_id table.id) rest) (and_left (not (list_any (has_id table.id) rest)) (have_distinct_ids rest) distinct) in
+    let others : have_distinct_ids rest ≡ true = and_right (not (list_any (has_id table.id) rest)) (have_distinct_ids rest) distinct in
     let other : same_table (get_or rest k d).id table.id ≡ false = apart rest k alone (omega arith) in
     ap (λ b. cond b (Some table) (table_in rest (get_or rest k d).id)) other ∙ found_itself rest k d others (omega arith)
   where

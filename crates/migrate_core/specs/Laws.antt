@@ -11,4 +11,6 @@ use Rattle.topo_state.specs.Tables.{table_in}
 -- no other tablet moves under the session than the one at which it is found
 abbrev pub IsFoundOnce : Topology → Session → Type 0
 IsFoundOnce state session =
-    (id : TableId) (table : Table) (tablet : ℕ) → table_in state.tables id ≡ Some table → tablet < length table.map.list → has_session session (tablet_in table.map.list tablet) ≡ true → place_of_session state.tables session ≡ Some (record { table = id; tablet = tablet })
+    (id : TableId) (table : Table) (tablet : ℕ) → table_in state.tables id ≡ Some table →
+    tablet < length table.map.list → has_session session (tablet_in table.map.list tablet) ≡ true →
+    place_of_session state.tables session ≡ Some (record { table = id; tablet = tablet })

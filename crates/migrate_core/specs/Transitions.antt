@@ -54,9 +54,9 @@ streamed_at Streaming t = Some t.pending.host
 streamed_at stage t = None
 
 -- the same of a session's transition, where there is one
-abbrev pub cleaned_host : Option Transition → Option HostId
-cleaned_host None = None
-cleaned_host (Some t) = cleaned_at t.stage t
+abbrev pub cleaned_host_in : Option Transition → Option HostId
+cleaned_host_in None = None
+cleaned_host_in (Some t) = cleaned_at t.stage t
 
 abbrev pub streamed_host : Option Transition → Option HostId
 streamed_host None = None

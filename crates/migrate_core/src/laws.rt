@@ -21,10 +21,13 @@ pub fn law_target_is_a_move()
 
 /// A host is waited for at a barrier exactly where the evidence for the state's version is not complete.
 pub fn law_barrier_is_awaited()
-    ensures { (facts : List Told) (state : Topology) → is_some (awaited_barrier facts state) ≡ not (is_complete facts state.version state.members state.before) }
+    ensures { (facts : List Told) (state : Topology) →
+        is_some (awaited_barrier facts state) ≡ not (is_complete facts state.version state.members state.before) }
 {}
 
 /// A command that is proposed for a move breaks no rule in the state by which it was planned.
 pub fn law_planned_advance_is_judged()
-    ensures { (state : Topology) (facts : List Told) (session : Session) (back : Bool) (command : Command) → IsTopology state → IsFoundOnce state session → plan_next state facts session back ≡ Propose command → rule state command ≡ None }
+    ensures { (state : Topology) (facts : List Told) (session : Session) (back : Bool)
+        (command : Command) → IsTopology state → IsFoundOnce state session →
+        plan_next state facts session back ≡ Propose command → rule state command ≡ None }
 {}

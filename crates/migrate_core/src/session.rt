@@ -49,7 +49,8 @@ pub(crate) fn target(stage: Stage, back: bool) -> Option<Stage>
     }
 }
 
-/// The host that the transition's stage cleans: on the way forward the leaving replica's, on the way back the pending one's.
+/// The host that the transition's stage cleans: on the way forward the leaving replica's, on the way back the pending
+/// one's.
 pub fn cleaned_host(transition: Transition) -> Option<HostId>
     ensures { result ≡ cleaned_at transition.stage transition }
 {

@@ -12,7 +12,7 @@ use Rattle.base_ids.specs.declared.ids.Replica.{Replica}
 use Rattle.base_ids.specs.declared.ids.Session.{Session}
 use Rattle.cluster_history.proofs.LogLemmas.{version_below_last}
 use Rattle.cluster_history.proofs.WithinLemmas.{applied_within}
-use Rattle.cluster_history.specs.Held.{cleaned_move, cleaned_session, covers, drops, move_for, session_of}
+use Rattle.cluster_history.specs.Held.{cleaned_move, cleaned_session, covers_key, drops, move_for, session_of}
 use Rattle.cluster_history.specs.History.{History, message_at}
 use Rattle.cluster_history.specs.Legal.{IsLegalHistory, entry_of, outputs_of}
 use Rattle.cluster_history.specs.Openings.{IsValidOpening, opening_state}
@@ -29,7 +29,7 @@ use Rattle.history_facts.proofs.HostLemmas.{log_legal}
 use Rattle.history_facts.proofs.NameLemmas.{both_true, or_first, or_second, same_host-same, same_table-same}
 use Rattle.log_law.proofs.LawLemmas.{pairs_law, places_law, sound_states_law, versions_law, views_law}
 use Rattle.log_law.specs.Laws.{IsNextView, IsSoundView}
-use Rattle.log_law.specs.Pairs.{IsPair, StaysCleanable, cleanable_host_in, cleaned_host, is_cleanable_host}
+use Rattle.log_law.specs.Pairs.{IsPair, StaysCleanable, cleanable_host_in, is_cleaned_host, is_cleanable_host}
 use Rattle.log_law.specs.Relocations.{IsMoveOf}
 use Rattle.log_law.specs.Stages.{view_with}
 use Rattle.register_model.specs.declared.data.Key.{Key}
@@ -40,7 +40,7 @@ use Rattle.tablet_map.specs.Replicas.{CanMove}
 use Rattle.tablet_map.specs.declared.tablet.Tablet.{Tablet}
 use Rattle.tablet_map.specs.declared.tablet.Transition.{Transition}
 use Rattle.token_ring.specs.Range.{IsIn}
-use Rattle.topo_state.specs.Lists.{chosen_by, cleans}
+use Rattle.topo_state.specs.Lists.{chosen_by, cleaned_side}
 use Rattle.topo_state.specs.Moves.{cleans_host, host_cleaned_at, is_cleaned_by, is_that_host, move_of}
 use Rattle.topo_state.specs.State.{is_member}
 use Rattle.topo_state.specs.Views.{view}
@@ -96,14 +96,14 @@ cleans_by opening history host event move e = cc e
 -- a move that cleans a host is in a stage that cleans, and leaves that host behind
 pub record LeavesHost (transition : Transition) (host : HostId) : Type 0 where
   pub stage : (transition.stage ≡ Cleanup) ⊎ (transition.stage ≡ CleanupTarget)
-  pub cleaned : cleaned_host (cleans (Some transition.stage)) transition host ≡ true
+  pub cleaned : is_cleaned_host (cleaned_side (Some transition.stage)) transition host ≡ true
 
 leaves_host : (transition : Transition) (host : HostId) → is_that_host host (host_cleaned_at transition.stage transition) ≡ true → LeavesHost transition host
 leaves_host transition host e = by_stage transition.stage refl e
   where
     by_stage : (stage : Stage) → transition.stage ≡ stage → is_that_host host (host_cleaned_at stage transition) ≡ true → LeavesHost transition host
-    by_stage Cleanup is h = record { stage = inl is; cleaned = ap (λ s. cleaned_host (cleans (Some s)) transition host) is ∙ h }
-    by_stage CleanupTarget is h = record { stage = inr is; cleaned = ap (λ s. cleaned_host (cleans (Some s)) transition host) is ∙ h }
+    by_stage Cleanup is h = record { stage = inl is; cleaned = ap (λ s. is_cleaned_host (cleaned_side (Some s)) transition host) is ∙ h }
+    by_stage CleanupTarget is h = record { stage = inr is; cleaned = ap (λ s. is_cleaned_host (cleaned_side (Some s)) transition host) is ∙ h }
     by_stage stage is h = cc h
 
 -- ---- the key of a range
@@ -115,7 +115,7 @@ pub record IsOfMove (move : Move) (key : Key) : Type 0 where
   pub table : key.table ≡ move.table
   pub within : IsIn move.range key.token
 
-covered_key : (move : Move) (key : Key) → covers (Some move) key ≡ true → IsOfMove move key
+covered_key : (move : Move) (key : Key) → covers_key (Some move) key ≡ true → IsOfMove move key
 covered_key move key e =
     let both = both_true (key.table.0 == move.table.0) (int_le move.range.first.value key.token.value && int_le key.token.value move.range.last.value) e in
     let ends = both_true (int_le move.range.first.value key.token.value) (int_le key.token.value move.range.last.value) both.1 in
@@ -138,12 +138,12 @@ member_left : (members : List HostId) (tablet : Tablet) (transition : Transition
 member_left members tablet transition host sound moving leaves =
     elim leaves.stage [
       | inl cleanup ↦
-          let left : same_host transition.leaving.host host ≡ true = ap (λ s. cleaned_host (cleans (Some s)) transition host) (sym cleanup) ∙ leaves.cleaned in
+          let left : same_host transition.leaving.host host ≡ true = ap (λ s. is_cleaned_host (cleaned_side (Some s)) transition host) (sym cleanup) ∙ leaves.cleaned in
           let there : has_host tablet.replicas transition.leaving.host ≡ true = host_in tablet.replicas transition.leaving can_move.leaves in
           let own : has_host (chosen_by Old tablet.replicas tablet.transition) transition.leaving.host ≡ true = ap (λ t. has_host (chosen_by Old tablet.replicas t) transition.leaving.host) moving ∙ there in
           ap (is_member members) (sym (same_host-same transition.leaving.host host left)) ∙ sound.within Old transition.leaving.host own
       | inr target ↦
-          let left : same_host transition.pending.host host ≡ true = ap (λ s. cleaned_host (cleans (Some s)) transition host) (sym target) ∙ leaves.cleaned in
+          let left : same_host transition.pending.host host ≡ true = ap (λ s. is_cleaned_host (cleaned_side (Some s)) transition host) (sym target) ∙ leaves.cleaned in
           ap (is_member members) (sym (same_host-same transition.pending.host host left)) ∙ pending_on
     ]
   where
@@ -214,7 +214,7 @@ pub clean_lemma :
 clean_lemma opening history event valid legal host key e =
     by_move (cleaned_move opening history host event (outputs_of opening history event)) refl e
   where
-    by_move : (move : Option Move) → cleaned_move opening history host event (outputs_of opening history event) ≡ move → covers move key ≡ true → IsLeftBehind opening history host key
+    by_move : (move : Option Move) → cleaned_move opening history host event (outputs_of opening history event) ≡ move → covers_key move key ≡ true → IsLeftBehind opening history host key
     by_move None is h = cc h
     by_move (Some move) is h =
         let by : CleansBy opening history host move = cleans_by opening history host event move is in

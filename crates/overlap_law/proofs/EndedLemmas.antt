@@ -10,7 +10,7 @@ use Rattle.base_ids.specs.declared.ids.OpId.{OpId}
 use Rattle.base_ids.specs.declared.ids.Version.{Version}
 use Rattle.cluster_history.specs.History.{History, is_restart_of}
 use Rattle.cluster_history.specs.Legal.{IsLegalHistory, entry_of, outputs_of}
-use Rattle.cluster_history.specs.Requests.{begins, begun_count, is_begin_of, is_event_of, is_live, is_reply_to, next_op, replies_to}
+use Rattle.cluster_history.specs.Requests.{begins_request, begun_count, is_begin_of, is_event_of, is_live, is_reply_to, next_op, replies_to}
 use Rattle.cluster_history.specs.declared.data.Entry.{Entry}
 use Rattle.cluster_history.specs.declared.data.Event.{Event}
 use Rattle.cluster_history.specs.declared.data.Event.TheVariants.{Begin}
@@ -105,7 +105,7 @@ replies_now opening history event lane op version kind reply place own stands =
 
 not_live : (opening : Opening) (history : History) (event : Event) (lane : LaneId) (op : OpId) → replies_to (entry_of opening history event) lane op ≡ true → is_live (entry_of opening history event ∷ history) lane op ≡ false
 not_live opening history event lane op e =
-    and_false (begins history event lane op || is_live history lane op) (not (replies_to (entry_of opening history event) lane op || is_restart_of (ByLane lane) event))
+    and_false (begins_request history event lane op || is_live history lane op) (not (replies_to (entry_of opening history event) lane op || is_restart_of (ByLane lane) event))
     (ap not (or_first (replies_to (entry_of opening history event) lane op) (is_restart_of (ByLane lane) event) e))
 
 pub live_unended : (opening : Opening) (history : History) → IsLegalHistory opening history → (place : ℕ) (lane : LaneId) (op : OpId) → is_live history lane op ≡ true → EndsAt (seen_in history) place (named lane op) → ⊥

@@ -1,7 +1,6 @@
 -- How many requests each lane has begun, as a map from lanes.
 use Rattle.std.specs.Prelude.{◌≡◌, ◌+◌, ◌++◌, ◌∷◌, ℕ, Bool, Option, Some, None, List, if◌then◌else◌}
-use Rattle.std.specs.Ordering.{nat_cmp, ordering_then, is_eq}
-use Rattle.std.specs.declared.cmp.Ordering.{Ordering}
+use Rattle.std.specs.Ordering.{is_eq}
 use Rattle.std.specs.Map.{lookup}
 use Rattle.base_ids.specs.Names.{same_lane}
 use Rattle.base_ids.specs.declared.ids.LaneId.{LaneId}
@@ -10,12 +9,9 @@ use Rattle.cluster_history.specs.History.{History}
 use Rattle.cluster_history.specs.Requests.{begun_count}
 use Rattle.cluster_history.specs.declared.data.Entry.{Entry}
 use Rattle.cluster_history.specs.declared.data.Operation.{Operation}
+use Rattle.register_model.specs.Known.{lane_order}
 use Rattle.register_model.specs.declared.data.ClientEvent.{ClientEvent}
 use Rattle.overlap_law.specs.ClientEvents.{begin_event, named, seen_of}
-
--- by host, and on a host by number
-abbrev pub lane_order : LaneId → LaneId → Ordering
-lane_order a b = ordering_then (nat_cmp a.host.0 b.host.0) (nat_cmp a.lane b.lane)
 
 abbrev pub is_at_lane : LaneId → LaneId → Bool
 is_at_lane lane other = is_eq (lane_order lane other)

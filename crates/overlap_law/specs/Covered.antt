@@ -35,7 +35,8 @@ view_at opening history version key = view_in (state_of_version opening history 
 
 -- A majority of the replicas that reads go to hold the cell, or a greater one; and where writes go to both lists at the
 -- log's version, so does a majority of the tablet's own.
-pub record IsCovered (opening : Opening) (history : History) (version : Version) (tablet : Tablet) (key : Key) (cell : Cell)
+pub record IsCovered (opening : Opening) (history : History) (version : Version) (tablet : Tablet) (key : Key)
+    (cell : Cell)
     : Type 0 where
   pub reads : base_need (length tablet.replicas) ≤ covered_count opening history key cell (reads_of tablet)
   pub old :

@@ -1,6 +1,7 @@
 -- What every client of the cluster may rely on, of each legal run: stated over the entries of its journal and the
--- replies among their outputs. Entries are numbered from 1, the oldest first, and a request is named by its lane and its
--- number there. That a request began at an entry, and that its client was told a reply by one, are words of answer_law.
+-- replies among their outputs. Entries are numbered from 1, the oldest first, and a request is named by its lane and
+-- its number there. That a request began at an entry, and that its client was told a reply by one, are words of
+-- answer_law.
 use Rattle.std.specs.Prelude.{Option, Some, ℕ, ◌<◌}
 use Rattle.answer_law.specs.Answers.{StaleBelowFences, TimeoutShort}
 use Rattle.answer_law.specs.Told.{IsBegunAt, IsToldAt, ReadsAreWritten}

@@ -15,7 +15,7 @@ use Rattle.quorum_tally.specs.declared.tally.Standing.TheVariants.{Answered, Ref
 use Rattle.quorum_tally.specs.declared.tally.Mark.{Mark}
 use Rattle.quorum_tally.specs.declared.tally.Mark.TheVariants.{Fresh, Repeat, Stranger}
 use Rattle.base_ids.specs.Replicas.{same_replica}
-use Rattle.quorum_tally.specs.Standings.{Standings, is_unmarked, is_open, mark_of, marked_place, marked_standings, answered_count as answered_in, refused_count as refused_in, hopeful_count}
+use Rattle.quorum_tally.specs.Standings.{Standings, is_unmarked, is_open, mark_of, marked_place, marked_standings, answered_places as answered_in, refused_places as refused_in, hopeful_count}
 use Rattle.quorum_ops.specs.declared.data.Answer.{Answer}
 use Rattle.quorum_ops.specs.declared.data.Said.{Said}
 use Rattle.quorum_ops.specs.declared.data.Said.TheVariants.{Written, Found, Stale}

@@ -15,7 +15,7 @@ use Rattle.stage_graph.specs.declared.kind.Kind.TheVariants.{Read as ReadKind, W
 use Rattle.quorum_tally.specs.declared.tally.Place.{Place}
 use Rattle.quorum_tally.specs.declared.tally.Mark.TheVariants.{Fresh, Repeat, Stranger}
 use Rattle.base_ids.specs.Replicas.{same_replica}
-use Rattle.quorum_tally.specs.Standings.{is_unmarked, is_answered, is_refused, is_target, is_open, mark_in, marked_place, answered_count as answered_in, refused_count as refused_in, hopeful_count}
+use Rattle.quorum_tally.specs.Standings.{is_unmarked, is_answered, is_refused, is_target, is_open, mark_in, marked_place, answered_places as answered_in, refused_places as refused_in, hopeful_count}
 use Rattle.quorum_tally.proofs.PlaceLemmas.{open_target}
 use Rattle.quorum_ops.specs.declared.data.Answer.{Answer}
 use Rattle.quorum_ops.specs.declared.data.Said.{Said}

@@ -71,11 +71,14 @@ good_reply ReadKind cell = Read cell
 -- answered; where it is a refusal, once the targets that have not refused are fewer than needed.
 abbrev pub decision_by : Said → Kind → List Replica → ℕ → List Answer → Option Reply
 decision_by Written kind targets need answers =
-    if nat_le need (answered_count answers targets) then Some (good_reply kind (greatest_told answers targets)) else None
+    if nat_le need (answered_count answers targets) then Some (good_reply kind (greatest_told answers targets))
+    else None
 decision_by (Found cell) kind targets need answers =
-    if nat_le need (answered_count answers targets) then Some (good_reply kind (greatest_told answers targets)) else None
+    if nat_le need (answered_count answers targets) then Some (good_reply kind (greatest_told answers targets))
+    else None
 decision_by (Refused fence) kind targets need answers =
-    if nat_lt (length targets - refused_count answers targets) need then Some (Stale (refused_count answers targets) fence) else None
+    if nat_lt (length targets - refused_count answers targets) need
+    then Some (Stale (refused_count answers targets) fence) else None
 
 -- The decision that the newest answer brings to a request that the earlier ones have not decided.
 abbrev pub decision : Kind → List Replica → ℕ → List Answer → Option Reply

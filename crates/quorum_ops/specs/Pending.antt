@@ -10,7 +10,7 @@ use Rattle.quorum_tally.specs.declared.tally.Mark.{Mark}
 use Rattle.quorum_tally.specs.declared.tally.Mark.TheVariants.{Fresh, Repeat, Stranger}
 use Rattle.quorum_tally.specs.declared.tally.Standing.TheVariants.{Answered, Refused}
 use Rattle.quorum_tally.specs.declared.tally.Verdict.TheVariants.{Open}
-use Rattle.quorum_tally.specs.Standings.{Standings, unmarked_standings, mark_of, marked_standings, answered_count, refused_count, hopeful_count, verdict_of}
+use Rattle.quorum_tally.specs.Standings.{Standings, unmarked_standings, mark_of, marked_standings, answered_places, refused_places, hopeful_count, verdict_of}
 use Rattle.quorum_ops.specs.declared.data.WriteAsk.{WriteAsk}
 use Rattle.quorum_ops.specs.declared.data.ReadAsk.{ReadAsk}
 use Rattle.quorum_ops.specs.declared.data.Answer.{Answer}
@@ -39,7 +39,7 @@ abbrev pub pending_read_of : LaneId → OpId → List Replica → ℕ → Pendin
 pending_read_of lane op targets need = record { request = pending_of lane op targets need; greatest = None }
 
 -- the answer is one to this request
-pub record Names (pending : Pending) (answer : Answer) : Type 0 where
+pub record NamesRequest (pending : Pending) (answer : Answer) : Type 0 where
   pub lane : answer.lane ≡ pending.lane
   pub op : answer.op ≡ pending.op
 
@@ -79,12 +79,12 @@ read_after_answer read answer =
 
 -- data decides once enough have answered, with the reply that is given
 abbrev pub data_taking : Standings → Reply → Taking
-data_taking tally reply = if nat_le tally.need (answered_count tally) then Decided reply else Waiting
+data_taking tally reply = if nat_le tally.need (answered_places tally) then Decided reply else Waiting
 
 -- a refusal decides once those that are left are fewer than needed, with its own fence
 abbrev pub refusal_taking : Standings → Version → Taking
 refusal_taking tally fence =
-    if nat_lt (hopeful_count tally) tally.need then Decided (StaleReply (refused_count tally) fence) else Waiting
+    if nat_lt (hopeful_count tally) tally.need then Decided (StaleReply (refused_places tally) fence) else Waiting
 
 abbrev pub taking_after : Standings → Said → Reply → Taking
 taking_after tally Written reply = data_taking tally reply
@@ -96,10 +96,11 @@ write_taking write answer = taking_after (after_answer write answer).tally answe
 
 abbrev pub read_taking : PendingRead → Answer → Taking
 read_taking read answer =
-    taking_after (after_answer read.request answer).tally answer.said (ReadReply (read_after_answer read answer).greatest)
+    taking_after (after_answer read.request answer).tally answer.said
+    (ReadReply (read_after_answer read answer).greatest)
 
 abbrev pub timeout_of : Pending → Reply
-timeout_of pending = Timeout (answered_count pending.tally) pending.tally.need
+timeout_of pending = Timeout (answered_places pending.tally) pending.tally.need
 
 -- ---- the asks
 

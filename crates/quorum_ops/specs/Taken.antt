@@ -71,7 +71,8 @@ read_outcome read (answer ∷ later) =
 abbrev pub first_decision : Kind → List Replica → ℕ → List Answer → List Answer → Option Reply
 first_decision kind targets need earlier [] = None
 first_decision kind targets need earlier (answer ∷ later) =
-    option_or (decision kind targets need (answer ∷ earlier)) (first_decision kind targets need (answer ∷ earlier) later)
+    option_or (decision kind targets need (answer ∷ earlier))
+    (first_decision kind targets need (answer ∷ earlier) later)
 
 -- ---- answers that do not count
 

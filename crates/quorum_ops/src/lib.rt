@@ -1,7 +1,7 @@
 // The operations of a lane: what it asks of replicas, what they answer, and when answers decide a request.
 #![tactic(auto)]
 
-pub mod data;
+mod data;
 mod laws;
 mod read_op;
 mod refusal;

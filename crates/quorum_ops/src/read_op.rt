@@ -27,13 +27,16 @@ impl Model for ReadOp {
 
     ghost Value = { PendingRead };
 
-    ghost view = { λ o. record { request = record { lane = o.lane; op = o.op; tally = o.tally }; greatest = o.greatest } };
+    ghost view = { λ o. record {
+      request = record { lane = o.lane; op = o.op; tally = o.tally };
+      greatest = o.greatest;
+    } };
 }
 
 impl ReadOp {
     ghost use Rattle.std.specs.Prelude.{◌≡◌, ◌≤◌, length, map, IfOk};
     ghost use Rattle.base_ids.specs.Replicas.{AreDistinct};
-    ghost use Rattle.quorum_ops.specs.Pending.{pending_read_of, Names, IsUndecided, read_after_answer, read_taking, data_taking, timeout_of};
+    ghost use Rattle.quorum_ops.specs.Pending.{pending_read_of, NamesRequest, IsUndecided, read_after_answer, read_taking, data_taking, timeout_of};
 
     /// Begins a read: one ask for each target, in their order.
     pub fn begin(
@@ -52,7 +55,15 @@ impl ReadOp {
         requires needs_one { 1 ≤ need }
         requires reachable { need ≤ length targets.now }
         ensures read { IfOk result (λ begun. begun.0 ≡ pending_read_of lane op targets.now need) }
-        ensures asks { IfOk result (λ begun. begun.1 ≡ map (λ to. record { lane = lane; op = op; version = version; table = table; token = token; to = to }) targets.now) }
+        ensures asks { IfOk result (λ begun. begun.1 ≡
+            map (λ to. record {
+              lane = lane;
+              op = op;
+              version = version;
+              table = table;
+              token = token;
+              to = to;
+            }) targets.now) }
     {
         let tally = Tally::new(targets, need);
         let ask = ReadAsk {
@@ -81,7 +92,7 @@ impl ReadOp {
     /// answers that count; `Stale` exactly at the fresh refusal that leaves fewer targets than needed, with
     /// that refusal's fence.
     pub fn take(&mut self, answer: &Answer) -> Taking
-        requires named { Names self.old.request answer.now }
+        requires named { NamesRequest self.old.request answer.now }
         requires undecided { IsUndecided self.old.request }
         ensures read { self.new ≡ read_after_answer self.old answer.now }
         ensures taking { result ≡ read_taking self.old answer.now }

@@ -32,7 +32,7 @@ impl Model for WriteOp {
 impl WriteOp {
     ghost use Rattle.std.specs.Prelude.{◌≡◌, ◌≤◌, length, map, IfOk};
     ghost use Rattle.base_ids.specs.Replicas.{AreDistinct};
-    ghost use Rattle.quorum_ops.specs.Pending.{write_to, pending_of, Names, IsUndecided, after_answer, write_taking, timeout_of};
+    ghost use Rattle.quorum_ops.specs.Pending.{write_to, pending_of, NamesRequest, IsUndecided, after_answer, write_taking, timeout_of};
 
     /// Begins a write of this cell: one ask for each target, in their order.
     pub fn begin(
@@ -52,7 +52,16 @@ impl WriteOp {
         requires needs_one { 1 ≤ need }
         requires reachable { need ≤ length targets.now }
         ensures write { IfOk result (λ begun. begun.0 ≡ pending_of lane op targets.now need) }
-        ensures asks { IfOk result (λ begun. begun.1 ≡ map (λ to. record { lane = lane; op = op; version = version; table = table; token = token; cell = cell; to = to }) targets.now) }
+        ensures asks { IfOk result (λ begun. begun.1 ≡
+            map (λ to. record {
+              lane = lane;
+              op = op;
+              version = version;
+              table = table;
+              token = token;
+              cell = cell;
+              to = to;
+            }) targets.now) }
     {
         let tally = Tally::new(targets, need);
         let ask = WriteAsk {
@@ -73,7 +82,7 @@ impl WriteOp {
     /// `Ok` comes exactly at the fresh answer that makes the needed number, `Stale` exactly at the fresh
     /// refusal that leaves fewer targets than needed, with that refusal's fence.
     pub fn take(&mut self, answer: &Answer) -> Taking
-        requires named { Names self.old answer.now }
+        requires named { NamesRequest self.old answer.now }
         requires undecided { IsUndecided self.old }
         ensures write { self.new ≡ after_answer self.old answer.now }
         ensures taking { result ≡ write_taking self.old answer.now }

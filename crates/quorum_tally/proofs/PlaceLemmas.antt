@@ -7,7 +7,7 @@ use Rattle.quorum_tally.specs.declared.tally.Standing.{Standing}
 use Rattle.quorum_tally.specs.declared.tally.Standing.TheVariants.{Unmarked, Answered, Refused}
 use Rattle.base_ids.specs.declared.ids.Replica.{Replica}
 use Rattle.quorum_tally.specs.declared.tally.Mark.TheVariants.{Fresh, Repeat, Stranger}
-use Rattle.quorum_tally.specs.Standings.{Standings, is_unmarked, is_answered, is_refused, is_place_of, is_target, is_open_place, is_open, mark_in, mark_of, marked_place, marked_standings, answered_count, refused_count}
+use Rattle.quorum_tally.specs.Standings.{Standings, is_unmarked, is_answered, is_refused, is_place_of, is_target, is_open_place, is_open, mark_in, mark_of, marked_place, marked_standings, answered_places, refused_places}
 
 -- one more place of a list that is changed from the front on
 pub map_step : {X : Type 0} (f : X → X) (now : List X) (i : ℕ) (d y : X) → y ≡ f (get_or now i d) → i < length now → take (i + 1) (set now i y) ++ map f (drop (i + 1) (set now i y)) ≡ take i now ++ map f (drop i now)
@@ -27,7 +27,7 @@ places_fit (p ∷ ps) =
     rw (sum_by-cons (λ (x : Place). cond (is_answered x.standing) 1 0) p ps, sum_by-cons (λ (x : Place). cond (is_refused x.standing) 1 0) p ps)
     (omega (arith, one_word p.standing, places_fit ps))
 
-pub counts_fit : (tally : Standings) → answered_count tally + refused_count tally ≤ length tally.places
+pub counts_fit : (tally : Standings) → answered_places tally + refused_places tally ≤ length tally.places
 counts_fit tally = places_fit tally.places
 
 -- ---- a word of a replica
@@ -103,11 +103,11 @@ answered_kept true replica Refused = refl
 answered_kept false replica old = refl
 
 -- an answer leaves the refusals as they were
-pub refused_count-answer : (tally : Standings) (from : Replica) → refused_count (marked_standings tally from Answered) ≡ refused_count tally
+pub refused_count-answer : (tally : Standings) (from : Replica) → refused_places (marked_standings tally from Answered) ≡ refused_places tally
 refused_count-answer tally from =
     count_by-map (marked_place from Answered) (λ place. is_refused place.standing) (λ place. refused_kept (is_place_of from place) place.replica place.standing) tally.places
 
 -- a refusal leaves the answers as they were
-pub answered_count-refusal : (tally : Standings) (from : Replica) → answered_count (marked_standings tally from Refused) ≡ answered_count tally
+pub answered_count-refusal : (tally : Standings) (from : Replica) → answered_places (marked_standings tally from Refused) ≡ answered_places tally
 answered_count-refusal tally from =
     count_by-map (marked_place from Refused) (λ place. is_answered place.standing) (λ place. answered_kept (is_place_of from place) place.replica place.standing) tally.places

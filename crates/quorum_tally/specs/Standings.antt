@@ -74,15 +74,15 @@ marked_standings tally from standing =
 
 -- ---- what is decided
 
-abbrev pub answered_count : Standings → ℕ
-answered_count tally = count_by (λ place. is_answered place.standing) tally.places
+abbrev pub answered_places : Standings → ℕ
+answered_places tally = count_by (λ place. is_answered place.standing) tally.places
 
-abbrev pub refused_count : Standings → ℕ
-refused_count tally = count_by (λ place. is_refused place.standing) tally.places
+abbrev pub refused_places : Standings → ℕ
+refused_places tally = count_by (λ place. is_refused place.standing) tally.places
 
 -- how many targets may still come to have answered, or have
 abbrev pub hopeful_count : Standings → ℕ
-hopeful_count tally = length tally.places - refused_count tally
+hopeful_count tally = length tally.places - refused_places tally
 
 -- enough have answered, or too few are left, or neither
 abbrev pub verdict_at : ℕ → ℕ → ℕ → ℕ → Verdict
@@ -90,4 +90,4 @@ verdict_at answered refused targets need =
     if nat_le need answered then Enough else (if nat_lt (targets - refused) need then Hopeless refused else Open)
 
 abbrev pub verdict_of : Standings → Verdict
-verdict_of tally = verdict_at (answered_count tally) (refused_count tally) (length tally.places) tally.need
+verdict_of tally = verdict_at (answered_places tally) (refused_places tally) (length tally.places) tally.need

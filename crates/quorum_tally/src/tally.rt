@@ -73,7 +73,7 @@ impl Model for Tally {
 impl Tally {
     ghost use Rattle.std.specs.Prelude.{◌≡◌, ◌≢◌, ◌<◌, ◌≤◌, length, ◌↔◌};
     ghost use Rattle.base_ids.specs.Replicas.{AreDistinct};
-    ghost use Rattle.quorum_tally.specs.Standings.{unmarked_standings, mark_of, marked_standings, answered_count, refused_count, hopeful_count, verdict_of};
+    ghost use Rattle.quorum_tally.specs.Standings.{unmarked_standings, mark_of, marked_standings, answered_places, refused_places, hopeful_count, verdict_of};
 
     /// The tally of these targets, with nobody marked. Of the targets `need` have to answer.
     pub fn new(targets: &[Replica], need: u8) -> Tally
@@ -128,14 +128,14 @@ impl Tally {
 
     /// How many targets have answered.
     pub fn answered(&self) -> u8
-        ensures { result ≡ answered_count self.now }
+        ensures { result ≡ answered_places self.now }
     {
         answered_of(&self.places[..self.count])
     }
 
     /// How many targets have refused.
     pub fn refused(&self) -> u8
-        ensures count { result ≡ refused_count self.now }
+        ensures count { result ≡ refused_places self.now }
         ensures few { result ≤ length self.now.places }
     {
         refused_of(&self.places[..self.count])
@@ -151,9 +151,10 @@ impl Tally {
     /// What the marks so far decide.
     pub fn verdict(&self) -> Verdict
         ensures verdict { result ≡ verdict_of self.now }
-        ensures enough { (result ≡ Verdict.Enough) ↔ (self.now.need ≤ answered_count self.now) }
-        ensures hopeless { (result ≡ Verdict.Hopeless (refused_count self.now)) ↔ (hopeful_count self.now < self.now.need) }
-        ensures exclusive { self.now.need ≤ answered_count self.now → self.now.need ≤ hopeful_count self.now }
+        ensures enough { (result ≡ Verdict.Enough) ↔ (self.now.need ≤ answered_places self.now) }
+        ensures hopeless { (result ≡ Verdict.Hopeless (refused_places self.now)) ↔
+            (hopeful_count self.now < self.now.need) }
+        ensures exclusive { self.now.need ≤ answered_places self.now → self.now.need ≤ hopeful_count self.now }
     {
         verdict_at(self.answered(), self.refused(), self.targets(), self.need())
     }

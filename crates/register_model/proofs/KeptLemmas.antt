@@ -13,9 +13,9 @@ use Rattle.register_model.specs.declared.known.Standing.{Standing}
 use Rattle.register_model.specs.declared.known.Standing.TheVariants.{Writing, Reading, Done}
 use Rattle.register_model.specs.declared.known.Write.{Write}
 use Rattle.register_model.specs.declared.seen.Seen.{Seen}
-use Rattle.register_model.specs.Known.{is_request, is_key, is_write, standing_of, acked_of, is_written, is_none_or_written}
+use Rattle.register_model.specs.Known.{is_that_request, is_key, is_write, request_standing, acked_of, was_written, is_none_or_written}
 use Rattle.register_model.specs.Register.{begun_by, ended_by, Stands, BeginsAt, EndsAt, WriteBeganBefore, WrittenBefore, HasBegun, IsRegisterRun}
-use Rattle.register_model.specs.Kept.{AckedBefore, IsGreatestAcked, IsUnbegun, IsUnended, IsWriting, IsReading, IsDone, StandsSo, IsKept}
+use Rattle.register_model.specs.Kept.{AckedBefore, IsGreatestAcked, IsUnbegun, IsUnended, IsWriting, IsReading, IsDone, StandsSo, IsKeptRun}
 use Rattle.register_model.proofs.RunLemmas.{stands-more, stands-split, stands-last, MayCome, run-longer, run-empty}
 use Rattle.register_model.proofs.NameLemmas.{is_request-same, is_request-itself, is_key-same, is_key-itself, is_write-same, is_write-itself}
 
@@ -168,16 +168,16 @@ module _ (events : List ClientEvent) (next : ClientEvent) where
         record { began = so.began; begins = begins-more so.began request so.begins; ended = so.ended; ends = ends-more so.ended request so.ends }
 
     -- the event's own request stands otherwise, and the others as before
-    standing-set : (standings new : List (Request × Standing)) (request : Request) (standing : Standing) → ((q : Request) → begun_by next ≡ Some q → request ≡ q) → ((q : Request) → ended_by next ≡ Some q → request ≡ q) → ((q : Request) → StandsSo events q (standing_of standings q)) → StandsSo (events ++ next ∷ []) request (Some standing) → ((q : Request) → standing_of new q ≡ (if is_request request q then Some standing else standing_of standings q)) → (q : Request) → StandsSo (events ++ next ∷ []) q (standing_of new q)
+    standing-set : (standings new : List (Request × Standing)) (request : Request) (standing : Standing) → ((q : Request) → begun_by next ≡ Some q → request ≡ q) → ((q : Request) → ended_by next ≡ Some q → request ≡ q) → ((q : Request) → StandsSo events q (request_standing standings q)) → StandsSo (events ++ next ∷ []) request (Some standing) → ((q : Request) → request_standing new q ≡ (if is_that_request request q then Some standing else request_standing standings q)) → (q : Request) → StandsSo (events ++ next ∷ []) q (request_standing new q)
     standing-set standings new request standing begins ends old here updates q =
         let P : Option Standing → Type 0 = λ s. StandsSo (events ++ next ∷ []) q s in
-        let apart : is_request request q ≡ false → request ≡ q → ⊥ = λ other same.
-        let Q : Request → Type 0 = λ r. is_request request r ≡ true in
-        let itself : is_request request q ≡ true = subst Q same (is_request-itself request) in
+        let apart : is_that_request request q ≡ false → request ≡ q → ⊥ = λ other same.
+        let Q : Request → Type 0 = λ r. is_that_request request r ≡ true in
+        let itself : is_that_request request q ≡ true = subst Q same (is_request-itself request) in
         let wrong : true ≡ false = sym itself ∙ other in cc in
-        subst P (sym (updates q)) (elim (is_request request q) as (λ b. is_request request q ≡ b → StandsSo (events ++ next ∷ []) q (if b then Some standing else standing_of standings q)) [
+        subst P (sym (updates q)) (elim (is_that_request request q) as (λ b. is_that_request request q ≡ b → StandsSo (events ++ next ∷ []) q (if b then Some standing else request_standing standings q)) [
           | true ↦ λ e. let R : Request → Type 0 = λ r. StandsSo (events ++ next ∷ []) r (Some standing) in subst R (is_request-same request q e) here
-          | false ↦ λ e. stands_so-more q (standing_of standings q) (λ h. apart e (begins q h)) (λ h. apart e (ends q h)) (old q)
+          | false ↦ λ e. stands_so-more q (request_standing standings q) (λ h. apart e (begins q h)) (λ h. apart e (ends q h)) (old q)
         ] refl)
 
     -- the event acknowledges nothing
@@ -193,7 +193,7 @@ module _ (events : List ClientEvent) (next : ClientEvent) where
         (λ above written b. (old key cell).0 above written (before written b), λ each. (old key cell).1 (λ written b. each written (acked-now key written b)))
 
     -- the event writes nothing
-    written-same : (writes : List Write) → ((writer : Request) (key : Key) (cell : Cell) → WriteBegun writer key cell ≡ next → ⊥) → ((key : Key) (cell : Cell) → is_written writes key cell ≡ true ↔ WrittenBefore events (length events) key cell) → (key : Key) (cell : Cell) → is_written writes key cell ≡ true ↔ WrittenBefore (events ++ next ∷ []) (length (events ++ next ∷ [])) key cell
+    written-same : (writes : List Write) → ((writer : Request) (key : Key) (cell : Cell) → WriteBegun writer key cell ≡ next → ⊥) → ((key : Key) (cell : Cell) → was_written writes key cell ≡ true ↔ WrittenBefore events (length events) key cell) → (key : Key) (cell : Cell) → was_written writes key cell ≡ true ↔ WrittenBefore (events ++ next ∷ []) (length (events ++ next ∷ [])) key cell
     written-same writes no_write old key cell = (
       λ e. written-now key cell ((old key cell).0 e),
       λ b. elim (written-split (length (events ++ next ∷ [])) key cell b) [
@@ -212,14 +212,14 @@ second_true : (a b : Bool) → (a && b) ≡ true → b ≡ true
 second_true true b e = e
 second_true false b e = cc
 
-module _ (events : List ClientEvent) (seen : Seen) (kept : IsKept events seen) where
-  unbegun : (request : Request) → None ≡ standing_of seen.standings request → IsUnbegun events request
+module _ (events : List ClientEvent) (seen : Seen) (kept : IsKeptRun events seen) where
+  unbegun : (request : Request) → None ≡ request_standing seen.standings request → IsUnbegun events request
   unbegun request e = let P : Option Standing → Type 0 = λ s. StandsSo events request s in subst P (sym e) (kept.standing request)
 
-  pub writing : (request : Request) (key : Key) (cell : Cell) → Some (Writing key cell) ≡ standing_of seen.standings request → IsWriting events request key cell
+  pub writing : (request : Request) (key : Key) (cell : Cell) → Some (Writing key cell) ≡ request_standing seen.standings request → IsWriting events request key cell
   writing request key cell e = let P : Option Standing → Type 0 = λ s. StandsSo events request s in subst P (sym e) (kept.standing request)
 
-  pub reading : (request : Request) (key : Key) (least : Option Cell) → Some (Reading key least) ≡ standing_of seen.standings request → IsReading events request key least
+  pub reading : (request : Request) (key : Key) (least : Option Cell) → Some (Reading key least) ≡ request_standing seen.standings request → IsReading events request key least
   reading request key least e = let P : Option Standing → Type 0 = λ s. StandsSo events request s in subst P (sym e) (kept.standing request)
 
   -- a write begins
@@ -233,7 +233,7 @@ module _ (events : List ClientEvent) (seen : Seen) (kept : IsKept events seen) w
         not_below = λ wrote at begin writer reader k w c e writes acks before begins. cc;
       }
 
-  pub begin_write-kept : (request : Request) (key : Key) (cell : Cell) (new : List (Request × Standing)) (more : List Write) → None ≡ standing_of seen.standings request → ((q : Request) → standing_of new q ≡ (if is_request request q then Some (Writing key cell) else standing_of seen.standings q)) → ((k : Key) (c : Cell) → is_written more k c ≡ (if is_write (record { key = key; cell = cell }) (record { key = k; cell = c }) then true else is_written seen.written k c)) → IsKept (events ++ WriteBegun request key cell ∷ []) (record { standings = new; acked = seen.acked; written = more })
+  pub begin_write-kept : (request : Request) (key : Key) (cell : Cell) (new : List (Request × Standing)) (more : List Write) → None ≡ request_standing seen.standings request → ((q : Request) → request_standing new q ≡ (if is_that_request request q then Some (Writing key cell) else request_standing seen.standings q)) → ((k : Key) (c : Cell) → was_written more k c ≡ (if is_write (record { key = key; cell = cell }) (record { key = k; cell = c }) then true else was_written seen.written k c)) → IsKeptRun (events ++ WriteBegun request key cell ∷ []) (record { standings = new; acked = seen.acked; written = more })
   begin_write-kept request key cell new more absent updates adds =
       let next : ClientEvent = WriteBegun request key cell in
       let none = unbegun request absent in
@@ -247,7 +247,7 @@ module _ (events : List ClientEvent) (seen : Seen) (kept : IsKept events seen) w
         standing = standing-set events next kept.run may seen.standings new request (Writing key cell) (λ q e. cc) (λ q e. cc) kept.standing here updates;
         greatest = greatest-same events next kept.run may seen.acked (λ writer e. cc) kept.greatest;
         written = λ k c. (
-          λ e. elim (itself k c) as (λ b. itself k c ≡ b → (if b then true else is_written seen.written k c) ≡ true → WrittenBefore (events ++ next ∷ []) (length (events ++ next ∷ [])) k c) [
+          λ e. elim (itself k c) as (λ b. itself k c ≡ b → (if b then true else was_written seen.written k c) ≡ true → WrittenBefore (events ++ next ∷ []) (length (events ++ next ∷ [])) k c) [
             | true ↦ λ is yes.
                 let same : Write = record { key = k; cell = c } in
                 let e2 = is_write-same (record { key = key; cell = cell }) same is in
@@ -256,7 +256,7 @@ module _ (events : List ClientEvent) (seen : Seen) (kept : IsKept events seen) w
             | false ↦ λ is yes. written-now events next k c ((kept.written k c).0 yes)
           ] refl (sym (adds k c) ∙ e),
           λ b. adds k c ∙ elim (written-split events next (length (events ++ next ∷ [])) k c b) [
-            | inl before ↦ elim (itself k c) as (λ t. (if t then true else is_written seen.written k c) ≡ true) [ true ↦ refl | false ↦ (kept.written k c).1 before ]
+            | inl before ↦ elim (itself k c) as (λ t. (if t then true else was_written seen.written k c) ≡ true) [ true ↦ refl | false ↦ (kept.written k c).1 before ]
             | inr last ↦
                 let key_same : key ≡ k = cc in
                 let cell_same : cell ≡ c = cc in
@@ -299,7 +299,7 @@ module _ (events : List ClientEvent) (seen : Seen) (kept : IsKept events seen) w
             ]
       ]
 
-  pub acknowledge-kept : (request : Request) (key : Key) (cell : Cell) (new : List (Request × Standing)) (more : List (Key × Cell)) → Some (Writing key cell) ≡ standing_of seen.standings request → ((q : Request) → standing_of new q ≡ (if is_request request q then Some Done else standing_of seen.standings q)) → ((k : Key) → acked_of more k ≡ (if is_key key k then greater_cell (acked_of seen.acked key) (Some cell) else acked_of seen.acked k)) → IsKept (events ++ WriteAcked request ∷ []) (record { standings = new; acked = more; written = seen.written })
+  pub acknowledge-kept : (request : Request) (key : Key) (cell : Cell) (new : List (Request × Standing)) (more : List (Key × Cell)) → Some (Writing key cell) ≡ request_standing seen.standings request → ((q : Request) → request_standing new q ≡ (if is_that_request request q then Some Done else request_standing seen.standings q)) → ((k : Key) → acked_of more k ≡ (if is_key key k then greater_cell (acked_of seen.acked key) (Some cell) else acked_of seen.acked k)) → IsKeptRun (events ++ WriteAcked request ∷ []) (record { standings = new; acked = more; written = seen.written })
   acknowledge-kept request key cell new more stood updates raises =
       let next : ClientEvent = WriteAcked request in
       let w = writing request key cell stood in
@@ -360,7 +360,7 @@ module _ (events : List ClientEvent) (seen : Seen) (kept : IsKept events seen) w
         not_below = λ wrote at begin writer reader k w c e writes acks before begins. cc;
       }
 
-  pub begin_read-kept : (request : Request) (key : Key) (new : List (Request × Standing)) → None ≡ standing_of seen.standings request → ((q : Request) → standing_of new q ≡ (if is_request request q then Some (Reading key (acked_of seen.acked key)) else standing_of seen.standings q)) → IsKept (events ++ ReadBegun request key ∷ []) (record { standings = new; acked = seen.acked; written = seen.written })
+  pub begin_read-kept : (request : Request) (key : Key) (new : List (Request × Standing)) → None ≡ request_standing seen.standings request → ((q : Request) → request_standing new q ≡ (if is_that_request request q then Some (Reading key (acked_of seen.acked key)) else request_standing seen.standings q)) → IsKeptRun (events ++ ReadBegun request key ∷ []) (record { standings = new; acked = seen.acked; written = seen.written })
   begin_read-kept request key new absent updates =
       let next : ClientEvent = ReadBegun request key in
       let none = unbegun request absent in
@@ -381,7 +381,7 @@ module _ (events : List ClientEvent) (seen : Seen) (kept : IsKept events seen) w
       }
 
   -- an event that ends an open request and acknowledges nothing
-  ended-kept : (request : Request) (began : ℕ) (next : ClientEvent) (new : List (Request × Standing)) → BeginsAt events began request → MayCome events next → ended_by next ≡ Some request → begun_by next ≡ None → ((writer : Request) → WriteAcked writer ≡ next → ⊥) → ((writer : Request) (key : Key) (cell : Cell) → WriteBegun writer key cell ≡ next → ⊥) → ((q : Request) → standing_of new q ≡ (if is_request request q then Some Done else standing_of seen.standings q)) → IsKept (events ++ next ∷ []) (record { standings = new; acked = seen.acked; written = seen.written })
+  ended-kept : (request : Request) (began : ℕ) (next : ClientEvent) (new : List (Request × Standing)) → BeginsAt events began request → MayCome events next → ended_by next ≡ Some request → begun_by next ≡ None → ((writer : Request) → WriteAcked writer ≡ next → ⊥) → ((writer : Request) (key : Key) (cell : Cell) → WriteBegun writer key cell ≡ next → ⊥) → ((q : Request) → request_standing new q ≡ (if is_that_request request q then Some Done else request_standing seen.standings q)) → IsKeptRun (events ++ next ∷ []) (record { standings = new; acked = seen.acked; written = seen.written })
   ended-kept request began next new begins may ends begins_none no_ack no_write updates =
       let here : IsDone (events ++ next ∷ []) request = record {
         began = began;
@@ -412,7 +412,7 @@ module _ (events : List ClientEvent) (seen : Seen) (kept : IsKept events seen) w
             let is : cell ≡ Some c = cc in
             let found = one_key begin q k same stands in
             let P : Option Cell → Type 0 = λ o. is_none_or_written seen.written key o ≡ true in
-            let there : is_written seen.written key c ≡ true = subst P is known in
+            let there : was_written seen.written key c ≡ true = subst P is known in
             let Q : Key → Type 0 = λ y. WrittenBefore events (length events) y c in
             subst Q (sym found.1) ((kept.written key c).0 there);
         not_below = λ wrote at begin writer q k w c e wrote_it acks before begins.
@@ -426,7 +426,7 @@ module _ (events : List ClientEvent) (seen : Seen) (kept : IsKept events seen) w
             subst R is ((r.greatest cell).0 above w acked_before);
       }
 
-  pub end_read-kept : (request : Request) (key : Key) (least cell : Option Cell) (new : List (Request × Standing)) → Some (Reading key least) ≡ standing_of seen.standings request → (is_not_below cell least && is_none_or_written seen.written key cell) ≡ true → ((q : Request) → standing_of new q ≡ (if is_request request q then Some Done else standing_of seen.standings q)) → IsKept (events ++ ReadOk request cell ∷ []) (record { standings = new; acked = seen.acked; written = seen.written })
+  pub end_read-kept : (request : Request) (key : Key) (least cell : Option Cell) (new : List (Request × Standing)) → Some (Reading key least) ≡ request_standing seen.standings request → (is_not_below cell least && is_none_or_written seen.written key cell) ≡ true → ((q : Request) → request_standing new q ≡ (if is_that_request request q then Some Done else request_standing seen.standings q)) → IsKeptRun (events ++ ReadOk request cell ∷ []) (record { standings = new; acked = seen.acked; written = seen.written })
   end_read-kept request key least cell new stood fit updates =
       let r = reading request key least stood in
       let above = first_true (is_not_below cell least) (is_none_or_written seen.written key cell) fit in
@@ -444,14 +444,14 @@ module _ (events : List ClientEvent) (seen : Seen) (kept : IsKept events seen) w
         not_below = λ wrote at begin writer reader k v c e wrote_it acks before begins. cc;
       }
 
-  pub end_write-kept : (request : Request) (key : Key) (cell : Cell) (new : List (Request × Standing)) → Some (Writing key cell) ≡ standing_of seen.standings request → ((q : Request) → standing_of new q ≡ (if is_request request q then Some Done else standing_of seen.standings q)) → IsKept (events ++ Ended request ∷ []) (record { standings = new; acked = seen.acked; written = seen.written })
+  pub end_write-kept : (request : Request) (key : Key) (cell : Cell) (new : List (Request × Standing)) → Some (Writing key cell) ≡ request_standing seen.standings request → ((q : Request) → request_standing new q ≡ (if is_that_request request q then Some Done else request_standing seen.standings q)) → IsKeptRun (events ++ Ended request ∷ []) (record { standings = new; acked = seen.acked; written = seen.written })
   end_write-kept request key cell new stood updates =
       let w = writing request key cell stood in
       let begun : HasBegun events (length events) (Ended request) =
       inl (record { at = w.at; key = key; cell = cell; earlier = slice_get_within events w.at (WriteBegun request key cell) w.stands; stands = w.stands }) in
       ended-kept request w.at (Ended request) new (record { event = WriteBegun request key cell; stands = w.stands; begins = refl }) (ended-may request w.unended begun) refl refl (λ writer e. cc) (λ writer k c e. cc) updates
 
-  pub end_unread-kept : (request : Request) (key : Key) (least : Option Cell) (new : List (Request × Standing)) → Some (Reading key least) ≡ standing_of seen.standings request → ((q : Request) → standing_of new q ≡ (if is_request request q then Some Done else standing_of seen.standings q)) → IsKept (events ++ Ended request ∷ []) (record { standings = new; acked = seen.acked; written = seen.written })
+  pub end_unread-kept : (request : Request) (key : Key) (least : Option Cell) (new : List (Request × Standing)) → Some (Reading key least) ≡ request_standing seen.standings request → ((q : Request) → request_standing new q ≡ (if is_that_request request q then Some Done else request_standing seen.standings q)) → IsKeptRun (events ++ Ended request ∷ []) (record { standings = new; acked = seen.acked; written = seen.written })
   end_unread-kept request key least new stood updates =
       let r = reading request key least stood in
       let begun : HasBegun events (length events) (Ended request) =
@@ -459,7 +459,7 @@ module _ (events : List ClientEvent) (seen : Seen) (kept : IsKept events seen) w
       ended-kept request r.at (Ended request) new (record { event = ReadBegun request key; stands = r.stands; begins = refl }) (ended-may request r.unended begun) refl refl (λ writer e. cc) (λ writer k c e. cc) updates
 
 -- nothing is kept of no events
-pub kept-empty : IsKept [] (record { standings = []; acked = []; written = [] })
+pub kept-empty : IsKeptRun [] (record { standings = []; acked = []; written = [] })
 kept-empty = record {
   run = run-empty;
   standing = λ request place b. let wrong : None ≡ Some b.event = b.stands in cc;

@@ -11,7 +11,7 @@ use Rattle.cell_merge.proofs.CellOrder.{cell_same}
 use Rattle.register_model.specs.declared.data.Key.{Key}
 use Rattle.register_model.specs.declared.data.Request.{Request}
 use Rattle.register_model.specs.declared.known.Write.{Write}
-use Rattle.register_model.specs.Known.{is_request, is_key, is_write}
+use Rattle.register_model.specs.Known.{is_that_request, is_key, is_write}
 use Rattle.register_model.specs.WriteOrder.{write_order_total}
 
 -- two orders, one after the other, find two things equal where both do
@@ -31,7 +31,7 @@ equal_numbers a b e = nat_cmp-IsAntisymmetric a b ((Equal-is (nat_cmp a b)).0 e)
 number_itself : (a : ℕ) → is_eq (nat_cmp a a) ≡ true
 number_itself a = ap is_eq (tied_itself nat_cmp_total a)
 
-pub is_request-same : (a b : Request) → is_request a b ≡ true → a ≡ b
+pub is_request-same : (a b : Request) → is_that_request a b ≡ true → a ≡ b
 is_request-same a b e =
     let lane_op = equal_both (ordering_then (nat_cmp a.lane.host.0 b.lane.host.0) (nat_cmp a.lane.lane b.lane.lane)) (nat_cmp a.op.0 b.op.0) e in
     let host_lane = equal_both (nat_cmp a.lane.host.0 b.lane.host.0) (nat_cmp a.lane.lane b.lane.lane) lane_op.0 in
@@ -40,7 +40,7 @@ is_request-same a b e =
     let op : a.op.0 ≡ b.op.0 = equal_numbers a.op.0 b.op.0 lane_op.1 in
     λ i. record { lane = record { host = record { 0 = host i }; lane = lane i }; op = record { 0 = op i } }
 
-pub is_request-itself : (a : Request) → is_request a a ≡ true
+pub is_request-itself : (a : Request) → is_that_request a a ≡ true
 is_request-itself a =
     both_equal (ordering_then (nat_cmp a.lane.host.0 a.lane.host.0) (nat_cmp a.lane.lane a.lane.lane)) (nat_cmp a.op.0 a.op.0)
     (both_equal (nat_cmp a.lane.host.0 a.lane.host.0) (nat_cmp a.lane.lane a.lane.lane) (number_itself a.lane.host.0) (number_itself a.lane.lane))

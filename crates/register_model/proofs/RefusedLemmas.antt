@@ -12,9 +12,9 @@ use Rattle.register_model.specs.declared.data.Request.{Request}
 use Rattle.register_model.specs.declared.known.Standing.{Standing}
 use Rattle.register_model.specs.declared.known.Standing.TheVariants.{Writing, Reading, Done}
 use Rattle.register_model.specs.declared.seen.Seen.{Seen}
-use Rattle.register_model.specs.Known.{standing_of, is_none_or_written}
+use Rattle.register_model.specs.Known.{request_standing, is_none_or_written}
 use Rattle.register_model.specs.Register.{begun_by, ended_by, BeginsAt, EndsAt, WriteBeganBefore, ReadBeganBefore, HasBegun, IsRegisterRun}
-use Rattle.register_model.specs.Kept.{IsUnbegun, IsDone, StandsSo, IsKept}
+use Rattle.register_model.specs.Kept.{IsUnbegun, IsDone, StandsSo, IsKeptRun}
 use Rattle.register_model.proofs.RunLemmas.{stands-more, stands-split, stands-last}
 use Rattle.register_model.proofs.KeptLemmas.{has_begun-begins, begins-more, ends-more, begins-last, ends-last, written-split, writing, reading}
 
@@ -63,18 +63,18 @@ module _ (events more : List ClientEvent) where
 
 -- ---- one event more
 
-module _ (events : List ClientEvent) (seen : Seen) (kept : IsKept events seen) where
+module _ (events : List ClientEvent) (seen : Seen) (kept : IsKeptRun events seen) where
   -- a request that stands so has begun
   standing-begun : (request : Request) (s : Standing) → StandsSo events request (Some s) → (at : ℕ) × BeginsAt events at request
   standing-begun request (Writing key cell) w = (w.at, record { event = WriteBegun request key cell; stands = w.stands; begins = refl })
   standing-begun request (Reading key least) r = (r.at, record { event = ReadBegun request key; stands = r.stands; begins = refl })
   standing-begun request Done d = (d.began, d.begins)
 
-  stood : (request : Request) (s : Option Standing) → s ≡ standing_of seen.standings request → StandsSo events request s
+  stood : (request : Request) (s : Option Standing) → s ≡ request_standing seen.standings request → StandsSo events request s
   stood request s e = let P : Option Standing → Type 0 = λ o. StandsSo events request o in subst P (sym e) (kept.standing request)
 
   -- the request began before
-  pub begun-refused : (next : ClientEvent) (request : Request) (s : Standing) → begun_by next ≡ Some request → Some s ≡ standing_of seen.standings request → IsRegisterRun (events ++ next ∷ []) → ⊥
+  pub begun-refused : (next : ClientEvent) (request : Request) (s : Standing) → begun_by next ≡ Some request → Some s ≡ request_standing seen.standings request → IsRegisterRun (events ++ next ∷ []) → ⊥
   begun-refused next request s begins e run =
       let before = standing-begun request s (stood request (Some s) e) in
       let first : BeginsAt events before.0 request = before.1 in
@@ -82,14 +82,14 @@ module _ (events : List ClientEvent) (seen : Seen) (kept : IsKept events seen) w
       absurd (omega (arith, same, slice_get_within events before.0 first.event first.stands))
 
   -- the request ended before
-  pub done-refused : (next : ClientEvent) (request : Request) → ended_by next ≡ Some request → Some Done ≡ standing_of seen.standings request → IsRegisterRun (events ++ next ∷ []) → ⊥
+  pub done-refused : (next : ClientEvent) (request : Request) → ended_by next ≡ Some request → Some Done ≡ request_standing seen.standings request → IsRegisterRun (events ++ next ∷ []) → ⊥
   done-refused next request ends e run =
       let d : IsDone events request = stood request (Some Done) e in
       let same : d.ended ≡ length events = run.ends_open.once d.ended (length events) request (ends-more events next d.ended request d.ends) (ends-last events next request ends) in
       absurd (omega (arith, same, slice_get_within events d.ended d.ends.event d.ends.stands))
 
   -- the request has not begun
-  pub unbegun-refused : (next : ClientEvent) (request : Request) → ended_by next ≡ Some request → None ≡ standing_of seen.standings request → IsRegisterRun (events ++ next ∷ []) → ⊥
+  pub unbegun-refused : (next : ClientEvent) (request : Request) → ended_by next ≡ Some request → None ≡ request_standing seen.standings request → IsRegisterRun (events ++ next ∷ []) → ⊥
   unbegun-refused next request ends e run =
       let none : IsUnbegun events request = stood request None e in
       let longer : List ClientEvent = events ++ next ∷ [] in
@@ -100,7 +100,7 @@ module _ (events : List ClientEvent) (seen : Seen) (kept : IsKept events seen) w
       ]
 
   -- a read is acknowledged
-  pub acked_read-refused : (request : Request) (key : Key) (least : Option Cell) → Some (Reading key least) ≡ standing_of seen.standings request → IsRegisterRun (events ++ WriteAcked request ∷ []) → ⊥
+  pub acked_read-refused : (request : Request) (key : Key) (least : Option Cell) → Some (Reading key least) ≡ request_standing seen.standings request → IsRegisterRun (events ++ WriteAcked request ∷ []) → ⊥
   acked_read-refused request key least e run =
       let next : ClientEvent = WriteAcked request in
       let r = reading events seen kept request key least e in
@@ -111,7 +111,7 @@ module _ (events : List ClientEvent) (seen : Seen) (kept : IsKept events seen) w
       cc
 
   -- a write returns as a read
-  pub read_write-refused : (request : Request) (key : Key) (written : Cell) (cell : Option Cell) → Some (Writing key written) ≡ standing_of seen.standings request → IsRegisterRun (events ++ ReadOk request cell ∷ []) → ⊥
+  pub read_write-refused : (request : Request) (key : Key) (written : Cell) (cell : Option Cell) → Some (Writing key written) ≡ request_standing seen.standings request → IsRegisterRun (events ++ ReadOk request cell ∷ []) → ⊥
   read_write-refused request key written cell e run =
       let next : ClientEvent = ReadOk request cell in
       let w = writing events seen kept request key written e in
@@ -121,7 +121,7 @@ module _ (events : List ClientEvent) (seen : Seen) (kept : IsKept events seen) w
       let wrong : Some (ReadBegun request r.key) ≡ Some (WriteBegun request key written) = sym r.stands ∙ ap (slice_get (events ++ next ∷ [])) at ∙ stands in
       cc
 
-  module _ (request : Request) (key : Key) (least : Option Cell) (e : Some (Reading key least) ≡ standing_of seen.standings request) where
+  module _ (request : Request) (key : Key) (least : Option Cell) (e : Some (Reading key least) ≡ request_standing seen.standings request) where
     -- a read that may go on so returns what it may return
     read-above : (cell : Option Cell) → IsRegisterRun (events ++ ReadOk request cell ∷ []) → is_not_below cell least ≡ true
     read-above cell run =

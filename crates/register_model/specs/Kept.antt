@@ -10,7 +10,7 @@ use Rattle.register_model.specs.declared.data.Request.{Request}
 use Rattle.register_model.specs.declared.known.Standing.{Standing}
 use Rattle.register_model.specs.declared.known.Standing.TheVariants.{Writing, Reading, Done}
 use Rattle.register_model.specs.declared.seen.Seen.{Seen}
-use Rattle.register_model.specs.Known.{standing_of, acked_of, is_written}
+use Rattle.register_model.specs.Known.{request_standing, acked_of, was_written}
 use Rattle.register_model.specs.Register.{Stands, BeginsAt, EndsAt, WrittenBefore, IsRegisterRun}
 
 -- a write of this cell to this key was acknowledged before this place
@@ -64,20 +64,20 @@ StandsSo events request (Some (Reading key least)) = IsReading events request ke
 StandsSo events request (Some Done) = IsDone events request
 
 -- the events are a run, and this is what was kept of them
-pub record IsKept (events : List ClientEvent) (seen : Seen) : Type 0 where
+pub record IsKeptRun (events : List ClientEvent) (seen : Seen) : Type 0 where
   pub run : IsRegisterRun events
-  pub standing : (request : Request) → StandsSo events request (standing_of seen.standings request)
+  pub standing : (request : Request) → StandsSo events request (request_standing seen.standings request)
   pub greatest : (key : Key) → IsGreatestAcked events (length events) key (acked_of seen.acked key)
   pub written :
       (key : Key) (cell : Cell) →
-      is_written seen.written key cell ≡ true ↔ WrittenBefore events (length events) key cell
+      was_written seen.written key cell ≡ true ↔ WrittenBefore events (length events) key cell
 
 -- with this event the run goes on, and that is what is kept then; or no run goes on with it
 abbrev pub GoesOn : List ClientEvent → ClientEvent → Seen → Result Bool NoMemory → Type 0
-GoesOn events event new (Ok true) = IsKept (events ++ event ∷ []) new
+GoesOn events event new (Ok true) = IsKeptRun (events ++ event ∷ []) new
 GoesOn events event new (Ok false) = IsRegisterRun (events ++ event ∷ []) → ⊥
 GoesOn events event new (Err refused) = Unit {0}
 
 -- so it is of whatever events the old one was kept
 abbrev pub Judges : Seen → ClientEvent → Seen → Result Bool NoMemory → Type 0
-Judges old event new result = (events : List ClientEvent) → IsKept events old → GoesOn events event new result
+Judges old event new result = (events : List ClientEvent) → IsKeptRun events old → GoesOn events event new result

@@ -22,8 +22,8 @@ request_order a b =
     ordering_then (lane_order a.lane b.lane) (nat_cmp a.op.0 b.op.0)
 
 -- whether the two are one request
-abbrev pub is_request : Request → Request → Bool
-is_request a b = is_eq (request_order a b)
+abbrev pub is_that_request : Request → Request → Bool
+is_that_request a b = is_eq (request_order a b)
 
 -- by table, and in a table by token
 abbrev pub key_order : Key → Key → Ordering
@@ -44,27 +44,27 @@ abbrev pub is_write : Write → Write → Bool
 is_write a b = is_eq (write_order a b)
 
 -- how the request stands, if it has begun
-abbrev pub standing_of : List (Request × Standing) → Request → Option Standing
-standing_of standings request = lookup (is_request request) standings
+abbrev pub request_standing : List (Request × Standing) → Request → Option Standing
+request_standing standings request = lookup (is_that_request request) standings
 
 -- the greatest acknowledged cell of the key
 abbrev pub acked_of : List (Key × Cell) → Key → Option Cell
 acked_of acked key = lookup (is_key key) acked
 
 -- whether the cell was written to the key
-abbrev pub is_written : List Write → Key → Cell → Bool
-is_written writes key cell = list_any (is_write (record { key = key; cell = cell })) writes
+abbrev pub was_written : List Write → Key → Cell → Bool
+was_written writes key cell = list_any (is_write (record { key = key; cell = cell })) writes
 
 -- whether the cell is none or was written to the key
 abbrev pub is_none_or_written : List Write → Key → Option Cell → Bool
 is_none_or_written writes key None = true
-is_none_or_written writes key (Some cell) = is_written writes key cell
+is_none_or_written writes key (Some cell) = was_written writes key cell
 
 -- this request stands so now, and the others as before
 abbrev pub SetsStanding : List (Request × Standing) → List (Request × Standing) → Request → Standing → Type 0
 SetsStanding old new request standing =
     (other : Request) →
-    standing_of new other ≡ (if is_request request other then Some standing else standing_of old other)
+    request_standing new other ≡ (if is_that_request request other then Some standing else request_standing old other)
 
 -- this cell of this key is acknowledged now
 abbrev pub RaisesAcked : List (Key × Cell) → List (Key × Cell) → Key → Cell → Type 0
@@ -76,5 +76,6 @@ RaisesAcked old new key cell =
 abbrev pub AddsWrite : List Write → List Write → Key → Cell → Type 0
 AddsWrite old new key cell =
     (k : Key) (c : Cell) →
-    is_written new k c
-    ≡ (if is_write (record { key = key; cell = cell }) (record { key = k; cell = c }) then true else is_written old k c)
+    was_written new k c
+    ≡ (if is_write (record { key = key; cell = cell })
+    (record { key = k; cell = c }) then true else was_written old k c)

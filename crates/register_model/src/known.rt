@@ -3,7 +3,7 @@ ghost use Rattle.std.specs.Prelude.{◌≡◌, [], OnOk};
 ghost use Rattle.std.specs.Option.{option_copied};
 ghost use Rattle.std.specs.Cmp.{partial_order_from_total, eq_by_cmp_equiv, partial_equiv_from_equiv};
 ghost use Rattle.std.specs.Ordering.{eq_by_cmp, as_partial_cmp};
-ghost use Rattle.register_model.specs.Known.{standing_of, acked_of, is_written, write_order, SetsStanding, RaisesAcked, AddsWrite};
+ghost use Rattle.register_model.specs.Known.{request_standing, acked_of, was_written, write_order, SetsStanding, RaisesAcked, AddsWrite};
 
 use crate::data::{Key, Request};
 use base_ids::NoMemory;
@@ -62,7 +62,7 @@ impl Standings {
 
     /// How the request stands. `None` where it has not begun.
     pub fn get(&self, request: &Request) -> Option<&Standing>
-        ensures { option_copied result ≡ standing_of self.now request.now }
+        ensures { option_copied result ≡ request_standing self.now request.now }
     {
         self.standings.get(request)
     }
@@ -219,7 +219,7 @@ impl Written {
 
     /// Whether the cell was written to the key.
     pub fn contains(&self, key: &Key, cell: &Cell) -> bool
-        ensures { result ≡ is_written self.now key.now cell.now }
+        ensures { result ≡ was_written self.now key.now cell.now }
     {
         self.writes.contains(&Write {
             key: *key,

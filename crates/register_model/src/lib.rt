@@ -2,7 +2,7 @@
 // events are its runs stands in specs/.
 #![tactic(auto)]
 
-pub mod data;
+mod data;
 mod known;
 mod run;
 mod seen;

@@ -2,7 +2,7 @@
 ghost use Rattle.std.specs.Prelude.{◌≡◌, ◌&&◌, []};
 ghost use Rattle.std.specs.Option.{option_copied};
 ghost use Rattle.cell_merge.specs.Cell.{is_not_below};
-ghost use Rattle.register_model.specs.Kept.{IsKept, Judges};
+ghost use Rattle.register_model.specs.Kept.{IsKeptRun, Judges};
 ghost use Rattle.register_model.specs.Known.{is_none_or_written};
 
 use crate::data::{ClientEvent, Key, Request};
@@ -26,7 +26,7 @@ pub struct Seen {
 impl Seen {
     /// No event was seen.
     pub fn new(alloc: Global) -> Seen
-        ensures { IsKept [] result }
+        ensures { IsKeptRun [] result }
     {
         Seen {
             standings: Standings::new(alloc),

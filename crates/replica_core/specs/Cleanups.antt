@@ -20,9 +20,9 @@ abbrev pub cells_without : Cells → Option Move → Cells
 cells_without cells None = cells
 cells_without cells (Some move) = outside cells move.table move.range
 
-abbrev pub cleaned_by : Cells → HostId → Option Move → Cells
-cleaned_by cells host move = if cleans_host host move then cells_without cells move else cells
+abbrev pub cells_cleaned_by : Cells → HostId → Option Move → Cells
+cells_cleaned_by cells host move = if cleans_host host move then cells_without cells move else cells
 
 -- the host's cells after a cleanup: those of the moved tablet's range are dropped, where the session cleans the host
 abbrev pub cleaned_cells : Cells → Topology → HostId → Session → Cells
-cleaned_cells cells state host session = cleaned_by cells host (move_of state session)
+cleaned_cells cells state host session = cells_cleaned_by cells host (move_of state session)

@@ -2,7 +2,7 @@
 ghost use Rattle.std.specs.Prelude.{◌≡◌, ◌≤◌};
 ghost use Rattle.base_ids.specs.declared.ids.TableId.{TableId};
 ghost use Rattle.replica_store.specs.Cells.{IsOrdered};
-ghost use Rattle.replica_core.specs.Cleanups.{cleanup_by, cleanup_of, cleaned_by, cleaned_cells};
+ghost use Rattle.replica_core.specs.Cleanups.{cleanup_by, cleanup_of, cells_cleaned_by, cleaned_cells};
 
 use base_ids::{HostId, Session};
 use replica_store::Store;
@@ -17,16 +17,16 @@ pub enum Cleanup {
     NotMine,
 }
 
-/// What a cleanup for a session is on a host: `Cleaned` exactly where the state has the session in `cleanup` with its leaving
-/// replica on the host, or in `cleanup_target` with its pending one there.
+/// What a cleanup for a session is on a host: `Cleaned` exactly where the state has the session in `cleanup` with its
+/// leaving replica on the host, or in `cleanup_target` with its pending one there.
 pub fn cleanup_of(host: HostId, state: &TopoState, session: Session) -> Cleanup
     ensures { result ≡ cleanup_of state.now host session }
 {
     cleanup_by(host, &move_of(state, session))
 }
 
-/// Drops what a session's move leaves behind on the host: at `Cleaned` exactly the cells of the moved tablet's range. At
-/// `NotMine` the store stays. Takes no memory.
+/// Drops what a session's move leaves behind on the host: at `Cleaned` exactly the cells of the moved tablet's range.
+/// At `NotMine` the store stays. Takes no memory.
 pub fn serve_cleanup<S: Store>(
     store: &mut S,
     host: HostId,
@@ -56,7 +56,7 @@ fn cleanup_by(host: HostId, found: &Option<Move>) -> Cleanup
 /// Drops the range of a move, where it cleans the host.
 fn clean<S: Store>(store: &mut S, host: HostId, found: &Option<Move>) -> Cleanup
     ensures cleanup { result ≡ cleanup_by host found.now }
-    ensures cells { S.cells store.new ≡ cleaned_by (S.cells store.old) host found.now }
+    ensures cells { S.cells store.new ≡ cells_cleaned_by (S.cells store.old) host found.now }
     ensures ordered { IsOrdered (S.cells store.old) → IsOrdered (S.cells store.new) }
     ensures not_mine { result ≡ Cleanup.NotMine → store.new ≡ store.old }
     ensures room { S.spare store.old ≤ S.spare store.new }

@@ -1,4 +1,5 @@
-//! What a replica does for a request: it stores or tells a cell, or refuses below its fence; and what it does for a cleanup.
+//! What a replica does for a request: it stores or tells a cell, or refuses below its fence; and what it does for a
+//! cleanup.
 #![tactic(auto)]
 
 mod cleanup;

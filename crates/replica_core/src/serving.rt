@@ -4,7 +4,7 @@ ghost use Rattle.base_ids.specs.declared.ids.TableId.{TableId};
 ghost use Rattle.cell_merge.specs.Cell.{greater_cell};
 ghost use Rattle.token_ring.specs.declared.token.Token.{Token};
 ghost use Rattle.replica_store.specs.Cells.{IsOrdered, cell_at, only_at};
-ghost use Rattle.replica_core.specs.Serving.{is_stale, said_to, write_answer, read_answer, written_cells};
+ghost use Rattle.replica_core.specs.Serving.{is_stale, said_by_fence, write_answer, read_answer, written_cells};
 
 use base_ids::Version;
 use quorum_ops::{Answer, ReadAsk, Said, WriteAsk};
@@ -12,7 +12,7 @@ use replica_store::{Store, Stored, put_one};
 
 /// What is said to a request of a version, where one that is not refused is told `said`.
 fn said_to(version: Version, fence: Version, said: Said) -> Said
-    ensures { result ≡ said_to version fence said }
+    ensures { result ≡ said_by_fence version fence said }
 {
     if version.0 < fence.0 {
         Said::Stale { fence }
@@ -21,7 +21,8 @@ fn said_to(version: Version, fence: Version, said: Said) -> Said
     }
 }
 
-/// What a replica with this fence answers to a write: `Stale` exactly where the version of the write is below the fence.
+/// What a replica with this fence answers to a write: `Stale` exactly where the version of the write is below the
+/// fence.
 pub fn write_answer(fence: Version, ask: &WriteAsk) -> Answer
     ensures { result ≡ write_answer fence ask.now }
 {
@@ -33,8 +34,8 @@ pub fn write_answer(fence: Version, ask: &WriteAsk) -> Answer
     }
 }
 
-/// Stores the cell of a write and says so. Where the version of the write is below the fence, it says `Stale`, and the store
-/// stays. Takes no memory.
+/// Stores the cell of a write and says so. Where the version of the write is below the fence, it says `Stale`, and
+/// the store stays. Takes no memory.
 pub fn serve_write<S: Store>(store: &mut S, fence: Version, ask: &WriteAsk) -> Answer
     requires { 1 ≤ S.spare store.old }
     ensures answer { result ≡ write_answer fence ask.now }

@@ -44,7 +44,8 @@ only_at table token cell other_table other = if is_same table token other_table 
 
 -- a token of a table lies in a range of a table, whose ends are both in it
 abbrev pub is_within : TableId → TokenRange → TableId → Token → Bool
-is_within table range other_table token = (other_table.0 == table.0) && (int_le range.first.value token.value && int_le token.value range.last.value)
+is_within table range other_table token = (other_table.0 == table.0) &&
+    (int_le range.first.value token.value && int_le token.value range.last.value)
 
 abbrev pub is_inside : TableId → TokenRange → TableId × Stored → Bool
 is_inside table range e = is_within table range e.0 e.1.token
@@ -56,7 +57,8 @@ is_above (Some after) token = int_lt after.value token.value
 
 -- the stored cells of a range of a table above `after`, in the order of their tokens
 abbrev pub range_cells : Cells → TableId → TokenRange → Option Token → List Stored
-range_cells cells table range after = map (λ e. e.1) (filter (λ e. is_inside table range e && is_above after e.1.token) cells)
+range_cells cells table range after = map (λ e. e.1) (filter (λ e. is_inside table range e &&
+    is_above after e.1.token) cells)
 
 -- all but the cells of a range of a table
 abbrev pub outside : Cells → TableId → TokenRange → Cells

@@ -41,4 +41,6 @@ end_of table range = rank table range.last + 1
 abbrev pub put_at : Cells → TableId × Stored → Cells
 put_at [] p = p ∷ []
 put_at (e ∷ es) p =
-    if nat_lt (rank_of e) (rank_of p) then e ∷ put_at es p else if rank_of e == rank_of p then (if is_lt (cell_order e.1.cell p.1.cell) then (e.0, record e.1 { cell = p.1.cell }) ∷ es else e ∷ es) else p ∷ e ∷ es
+    if nat_lt (rank_of e) (rank_of p) then e ∷ put_at es p else if rank_of e == rank_of p
+    then (if is_lt (cell_order e.1.cell p.1.cell) then (e.0, record e.1 { cell = p.1.cell }) ∷ es else e ∷ es)
+    else p ∷ e ∷ es

@@ -121,9 +121,12 @@ pub(crate) fn put(tables: &mut Vec<TableId>, stored: &mut Vec<Stored>, table: Ta
     requires table_room { vec_len tables.old < vec_capacity tables.old }
     requires stored_room { vec_len stored.old < vec_capacity stored.old }
     ensures columns { AreColumns tables.new.items stored.new.items }
-    ensures cells { zip tables.new.items stored.new.items ≡ put_at (zip tables.old.items stored.old.items) (table, put) }
-    ensures tables_left { vec_capacity tables.old - vec_len tables.old ≤ vec_capacity tables.new - vec_len tables.new + 1 }
-    ensures stored_left { vec_capacity stored.old - vec_len stored.old ≤ vec_capacity stored.new - vec_len stored.new + 1 }
+    ensures cells { zip tables.new.items stored.new.items ≡ put_at (zip tables.old.items stored.old.items)
+        (table, put) }
+    ensures tables_left { vec_capacity tables.old - vec_len tables.old ≤
+        vec_capacity tables.new - vec_len tables.new + 1 }
+    ensures stored_left { vec_capacity stored.old - vec_len stored.old ≤
+        vec_capacity stored.new - vec_len stored.new + 1 }
 {
     let place = rank(table, put.token);
     let at = first_from(tables.as_slice(), stored.as_slice(), place);
@@ -144,7 +147,8 @@ pub(crate) fn drop_range(
 )
     requires columns { AreColumns tables.old.items stored.old.items }
     ensures columns { AreColumns tables.new.items stored.new.items }
-    ensures cells { zip tables.new.items stored.new.items ≡ outside (zip tables.old.items stored.old.items) table range }
+    ensures cells { zip tables.new.items stored.new.items ≡
+        outside (zip tables.old.items stored.old.items) table range }
     ensures tables_left { vec_capacity tables.old - vec_len tables.old ≤ vec_capacity tables.new - vec_len tables.new }
     ensures stored_left { vec_capacity stored.old - vec_len stored.old ≤ vec_capacity stored.new - vec_len stored.new }
 {

@@ -12,7 +12,8 @@ pub fn law_outside()
         ≡ (if is_within table range t k then None else cell_at cells t k) }
 {}
 
-/// The cells of a range above `after` are those that are stored for its tokens above `after`, in the order of their tokens.
+/// The cells of a range above `after` are those that are stored for its tokens above `after`, in the order of their
+/// tokens.
 pub fn law_range()
     ensures cells { (cells : Cells) (table : TableId) (range : TokenRange) (after : Option Token)
         → (k : Token)

@@ -53,7 +53,8 @@ pub trait Store {
         requires { 1 ≤ spare self.old }
         // each place has the greater one of its old cell and what was put there, and what was put is at its place alone
         ensures map { (t : TableId) (k : Token)
-            → cell_at (cells self.new) t k ≡ greater_cell (cell_at (cells self.old) t k) (only_at table token cell t k) }
+            → cell_at (cells self.new) t k ≡ greater_cell (cell_at (cells self.old) t k)
+            (only_at table token cell t k) }
         ensures ordered { IsOrdered (cells self.new) }
         ensures room { spare self.old ≤ spare self.new + 1 }
         ensures same_runs { (t : TableId) → runs self.new t ≡ runs self.old t };
@@ -63,8 +64,8 @@ pub trait Store {
         ensures cell { option_copied result ≡ cell_at (cells self.now) table token }
         ensures ordered { IsOrdered (cells self.now) };
 
-    /// Lends the first cells of a range above `after`, at most `max` of them. Where the range lies in several runs, they may
-    /// be fewer than `max` though there are more.
+    /// Lends the first cells of a range above `after`, at most `max` of them. Where the range lies in several runs,
+    /// they may be fewer than `max` though there are more.
     fn chunk(
         &self,
         table: TableId,
@@ -91,8 +92,8 @@ pub trait Store {
         ensures room { spare self.old ≤ spare self.new }
         ensures same_runs { (t : TableId) → runs self.new t ≡ runs self.old t };
 
-    /// Lays the cells of a table into `2^log2` runs, one for each tablet. Of the room afterwards nothing is said. `NoMemory`
-    /// leaves the map, and as run count of the table, where it is told, some power of two up to 1024.
+    /// Lays the cells of a table into `2^log2` runs, one for each tablet. Of the room afterwards nothing is said.
+    /// `NoMemory` leaves the map, and as run count of the table, where it is told, some power of two up to 1024.
     fn regroup(&mut self, table: TableId, log2: u8) -> Result<(), NoMemory>
         requires { log2 ≤ 10 }
         ensures map { cells self.new ≡ cells self.old }

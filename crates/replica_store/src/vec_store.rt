@@ -14,7 +14,8 @@ use token_ring::{Token, TokenRange};
 
 /// A store that keeps all cells in one list, in the order of tables and tokens. It tells no runs.
 ///
-/// The tables stand in one column and the cells with their tokens in another, so that a chunk lends a slice of the second.
+/// The tables stand in one column and the cells with their tokens in another, so that a chunk lends a slice of the
+/// second.
 #[derive(Drop)]
 pub struct VecStore {
     tables: Vec<TableId>,
@@ -29,7 +30,10 @@ impl Model for VecStore {
 
     ghost Value = { Content };
 
-    ghost view = { λ s. record { cells = zip s.tables.items s.stored.items; spare = min (vec_capacity s.tables - vec_len s.tables) (vec_capacity s.stored - vec_len s.stored) } };
+    ghost view = { λ s. record {
+      cells = zip s.tables.items s.stored.items;
+      spare = min (vec_capacity s.tables - vec_len s.tables) (vec_capacity s.stored - vec_len s.stored);
+    } };
 
     ghost invariant = { λ s. AreColumns s.tables.items s.stored.items };
 }

@@ -13,7 +13,7 @@ use Rattle.topo_state.specs.After.{after, fence_set}
 use Rattle.topo_state.specs.State.{Topology}
 use Rattle.topo_state.specs.declared.command.Command.{Command}
 use Rattle.topo_state.specs.declared.command.Command.TheVariants.{Advance, CreateTable, FinalizeResize, Join, Leave, Resize, SetFence, Start}
-use Rattle.report_text.specs.Report.{entry_lines, history_lines, is_of_lane, last_version, reply_count}
+use Rattle.report_text.specs.Report.{entry_lines, history_lines, is_of_lane, log_version, reply_count}
 use Rattle.report_text.specs.Tally.{IsTally, replies_after, tally_after, tally_by}
 use Rattle.report_text.specs.declared.report.Tally.{Tally}
 
@@ -116,7 +116,7 @@ kept-more opening history lines after tally count entry added kept longer is_add
     let told : TellsLog (opening_state opening) (log_of (entry ∷ history)) next =
     tells-after (opening_state opening) (log_of history) tally command
     (record { log = kept.tally.log; version = kept.tally.version; fence = kept.tally.fence }) in
-    let new : List (List ℕ) = entry_lines (last_version opening (entry ∷ history)) entry in
+    let new : List (List ℕ) = entry_lines (log_version opening (entry ∷ history)) entry in
     let all : after ≡ lines ++ new = longer ∙ ap (λ (v : Version). lines ++ entry_lines v entry) told.version in
     let sum : length after ≡ length lines + length new = ap (λ (l : List (List ℕ)). length l) all ∙ length-append lines new in
     let count_new : added ≡ length new = omega arith in

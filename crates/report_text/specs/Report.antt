@@ -167,14 +167,14 @@ abbrev pub entry_lines : Version → Entry → List (List ℕ)
 entry_lines version entry = flat_map (λ output. option_to_list (output_line version entry.event output)) entry.outputs
 
 -- the version of the log's state
-abbrev pub last_version : Opening → History → Version
-last_version opening history = (last_state opening history).version
+abbrev pub log_version : Opening → History → Version
+log_version opening history = (last_state opening history).version
 
 -- the lines of a history, the oldest first
 abbrev pub history_lines : Opening → History → List (List ℕ)
 history_lines opening [] = []
 history_lines opening (entry ∷ history) =
-    history_lines opening history ++ entry_lines (last_version opening (entry ∷ history)) entry
+    history_lines opening history ++ entry_lines (log_version opening (entry ∷ history)) entry
 
 -- the lines of a lane's events are replies
 abbrev pub is_of_lane : Event → Bool
@@ -188,7 +188,7 @@ abbrev pub reply_count : Opening → History → ℕ
 reply_count opening [] = 0
 reply_count opening (entry ∷ history) =
     if is_of_lane entry.event
-    then reply_count opening history + length (entry_lines (last_version opening (entry ∷ history)) entry)
+    then reply_count opening history + length (entry_lines (log_version opening (entry ∷ history)) entry)
     else reply_count opening history
 
 -- the count of replies, that of accepted commands, and the version and the fence of the log's state

@@ -5,14 +5,14 @@ use Rattle.std.specs.List.{Contains, fold, reduce}
 use Rattle.std.proofs.lemmas.Bool.{cases_lt}
 use Rattle.base_ids.specs.declared.OpId.{OpId}
 use Rattle.request_table.specs.declared.Live.{Live}
-use Rattle.request_table.specs.Requests.{is_same, request_of, with_work}
+use Rattle.request_table.specs.Requests.{is_same_request, request_of, with_work}
 
 module _ {P O : Type 0} where
   -- to write a whole request back with another operation is to change its operation
-  pub set_value-with_work : (live : List (OpId × Live P O)) (op : OpId) (x : Live P O) (work : O) → request_of live op ≡ Some x → set_value (is_same op) live (record x { work = work }) ≡ with_work live op work
+  pub set_value-with_work : (live : List (OpId × Live P O)) (op : OpId) (x : Live P O) (work : O) → request_of live op ≡ Some x → set_value (is_same_request op) live (record x { work = work }) ≡ with_work live op work
   set_value-with_work [] op x work found = refl
   set_value-with_work (r ∷ rs) op x work found =
-      elim (is_same op r.0) as (λ b. cond b (Some r.1) (request_of rs op) ≡ Some x → cond b ((r.0, record x { work = work }) ∷ rs) (r ∷ set_value (is_same op) rs (record x { work = work })) ≡ cond b ((r.0, record r.1 { work = work }) ∷ rs) (r ∷ with_work rs op work)) [
+      elim (is_same_request op r.0) as (λ b. cond b (Some r.1) (request_of rs op) ≡ Some x → cond b ((r.0, record x { work = work }) ∷ rs) (r ∷ set_value (is_same_request op) rs (record x { work = work })) ≡ cond b ((r.0, record r.1 { work = work }) ∷ rs) (r ∷ with_work rs op work)) [
         | true ↦ λ same. let e : r.1 ≡ x = cc in ap (λ (y : Live P O). (r.0, record y { work = work }) ∷ rs) (sym e)
         | false ↦ λ below. ap (λ es. r ∷ es) (set_value-with_work rs op x work below)
       ] found
@@ -21,7 +21,7 @@ module _ {P O : Type 0} where
   pub with_work-absent : (live : List (OpId × Live P O)) (op : OpId) (work : O) → option_map (λ r. r.work) (request_of live op) ≡ None → live ≡ with_work live op work
   with_work-absent [] op work absent = refl
   with_work-absent (r ∷ rs) op work absent =
-      elim (is_same op r.0) as (λ b. option_map (λ (x : Live P O). x.work) (cond b (Some r.1) (request_of rs op)) ≡ None → (r ∷ rs) ≡ cond b ((r.0, record r.1 { work = work }) ∷ rs) (r ∷ with_work rs op work)) [
+      elim (is_same_request op r.0) as (λ b. option_map (λ (x : Live P O). x.work) (cond b (Some r.1) (request_of rs op)) ≡ None → (r ∷ rs) ≡ cond b ((r.0, record r.1 { work = work }) ∷ rs) (r ∷ with_work rs op work)) [
         | true ↦ λ wrong. cc
         | false ↦ λ below. ap (λ es. r ∷ es) (with_work-absent rs op work below)
       ] absent

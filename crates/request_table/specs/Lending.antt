@@ -8,4 +8,5 @@ use Rattle.request_table.specs.contracts.RequestTable.{the_row}
 module _ (P O : RattleType) (table : MutBor (Requests P.Denot O.Denot)) where
   -- the request of this number has the operation that was left behind the reference, and all else stays
   abbrev pub LendsWork : OpId → Option (MutBor O.Denot) → Fml
-  LendsWork op lent = LendsIf (the_row P O) O table lent (λ work. record table.now { live = with_work table.now.live op work }) table.now
+  LendsWork op lent = LendsIf (the_row P O) O table lent (λ work.
+      record table.now { live = with_work table.now.live op work }) table.now

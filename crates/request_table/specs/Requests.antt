@@ -11,22 +11,23 @@ pub record Requests (P O : Type 0) : Type 0 where
   pub live : List (OpId × Live P O)
   pub room : Option OpId
 
-abbrev pub is_same : OpId → OpId → Bool
-is_same op other = op.0 == other.0
+abbrev pub is_same_request : OpId → OpId → Bool
+is_same_request op other = op.0 == other.0
 
 module _ {P O : Type 0} where
   -- the live request of this number
   abbrev pub request_of : List (OpId × Live P O) → OpId → Option (Live P O)
-  request_of live op = lookup (is_same op) live
+  request_of live op = lookup (is_same_request op) live
 
   -- the others, in their order
   abbrev pub without : List (OpId × Live P O) → OpId → List (OpId × Live P O)
-  without live op = remove_entry (is_same op) live
+  without live op = remove_entry (is_same_request op) live
 
   -- the same requests, the one of this number with another operation
   abbrev pub with_work : List (OpId × Live P O) → OpId → O → List (OpId × Live P O)
   with_work [] op work = []
-  with_work (r ∷ rs) op work = if is_same op r.0 then (r.0, record r.1 { work = work }) ∷ rs else r ∷ with_work rs op work
+  with_work (r ∷ rs) op work = if is_same_request op r.0 then (r.0, record r.1 { work = work }) ∷ rs
+      else r ∷ with_work rs op work
 
   -- the versions of the live requests, in the order of their begin
   abbrev pub versions_of : List (OpId × Live P O) → List ℕ

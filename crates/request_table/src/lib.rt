@@ -6,7 +6,7 @@ ghost use Rattle.std.specs.Option.{option_copied, option_copied_mut};
 ghost use Rattle.std.specs.Borrow.{sem};
 ghost use Rattle.std.specs.List.{IsDistinct};
 ghost use Rattle.std.specs.Map.{keys_of};
-ghost use Rattle.request_table.specs.Requests.{is_same, request_of, with_work, without, versions_of, is_live_below};
+ghost use Rattle.request_table.specs.Requests.{is_same_request, request_of, with_work, without, versions_of, is_live_below};
 
 use base_ids::{NoMemory, OpId, Version};
 use indexmap::IndexMap;
@@ -26,8 +26,8 @@ pub struct Live<P, O> {
 
 /// The live requests of one lane by their numbers, in the order of their begin.
 ///
-/// Callers see `live`, the list of the numbers with what is kept of each, and `room`, the number that is sure to be added
-/// without taking memory. No number stands in the list twice.
+/// Callers see `live`, the list of the numbers with what is kept of each, and `room`, the number that is sure to be
+/// added without taking memory. No number stands in the list twice.
 #[derive(Drop)]
 pub struct RequestTable<P, O> {
     requests: IndexMap<OpId, Live<P, O>>,
@@ -60,8 +60,8 @@ impl<P: Drop, O: Drop> RequestTable<P, O> {
         }
     }
 
-    /// Makes room for the request `op`, so that its `insert` takes no memory. The room stays until then, or until the next
-    /// `reserve` or `clear`. `NoMemory` leaves the table as it was.
+    /// Makes room for the request `op`, so that its `insert` takes no memory. The room stays until then, or until the
+    /// next `reserve` or `clear`. `NoMemory` leaves the table as it was.
     pub fn reserve(&mut self, op: OpId) -> Result<(), NoMemory>
         requires { request_of self.old.live op ≡ None }
         ensures live { self.new.live ≡ self.old.live }
@@ -167,7 +167,7 @@ impl<P: Drop, O: Drop> RequestTable<P, O> {
     /// How many requests are live.
     pub fn len(&self) -> usize
         ensures count { result ≡ length self.now.live }
-        ensures distinct { IsDistinct is_same (keys_of self.now.live) }
+        ensures distinct { IsDistinct is_same_request (keys_of self.now.live) }
     {
         self.requests.len()
     }

@@ -15,7 +15,7 @@ use Rattle.replica_store.proofs.RankLemmas.{is_within-rank}
 use Rattle.replica_store.proofs.RangeLemmas.{IsOrdered-filter, filter-same}
 use Rattle.replica_store.proofs.MapLemmas.{one_list, cell_at-outside}
 use Rattle.run_store.specs.Runs.{of_table, tablet_cells}
-use Rattle.run_store.specs.Tables.{Grouped, IsOfTable, IsTable, AreTables, IsLaid, store_cells, cells_of, index_of, log2_of, log2s_of, least_room}
+use Rattle.run_store.specs.Tables.{Grouped, IsOfTable, IsGrouped, AreTables, IsLaid, store_cells, cells_of, index_of, log2_of, log2s_of, least_room}
 use Rattle.run_store.proofs.StoreLemmas.{one_table, of_one, cell_at-of_one, cell_at-store_cells, IsOrdered-store_cells, range_cells-store_cells, tablet_cells-store_cells, without_range, found_table, found_cells, missing_cells}
 
 pub found_range : (gs : List Grouped) (rest : Cells) (t : TableId) (at : ℕ) (g : Grouped) (range : TokenRange) (after : Option Token) → IsLaid gs rest → at ≡ index_of gs t → at < length gs → g ≡ get_or gs at g → range_cells g.cells g.table range after ≡ range_cells (store_cells gs rest) t range after
@@ -155,7 +155,7 @@ module _ (whole : TokenRange) (all : (t : TableId) (k : Token) → is_within t w
         ]
       ] missing
 
-  pub AreTables-push : (gs : List Grouped) (g : Grouped) → AreTables gs → IsTable g → AreTables (gs ++ g ∷ [])
+  pub AreTables-push : (gs : List Grouped) (g : Grouped) → AreTables gs → IsGrouped g → AreTables (gs ++ g ∷ [])
   AreTables-push [] g are here = (here, tt)
   AreTables-push (x ∷ gs) g are here = (are.0, AreTables-push gs g are.1 here)
 
@@ -167,7 +167,7 @@ module _ (whole : TokenRange) (all : (t : TableId) (k : Token) → is_within t w
         | false ↦ λ _. IsOfTable-of_one t xs
       ] refl
 
-  pub adopted_is : (rest : Cells) (t : TableId) (g : Grouped) → IsOrdered rest → g.table ≡ t → g.log2 ≡ 0 → g.cells ≡ of_one t rest → IsTable g
+  pub adopted_is : (rest : Cells) (t : TableId) (g : Grouped) → IsOrdered rest → g.table ≡ t → g.log2 ≡ 0 → g.cells ≡ of_one t rest → IsGrouped g
   adopted_is rest t g ordered table log2 cells = record {
     few = omega arith;
     ordered = rw cells (IsOrdered-filter (λ e. e.0.0 == t.0) rest ordered);

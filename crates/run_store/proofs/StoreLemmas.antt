@@ -16,7 +16,7 @@ use Rattle.replica_store.proofs.PutLemmas.{IsOrdered-put_at, cell_at-put_at}
 use Rattle.replica_store.proofs.RangeLemmas.{IsOrdered-filter}
 use Rattle.replica_store.proofs.MapLemmas.{one_list}
 use Rattle.run_store.specs.Runs.{tablet_cells}
-use Rattle.run_store.specs.Tables.{Grouped, IsOfTable, IsTable, AreTables, put_all, without, store_cells, cells_of, index_of, log2s_of, least_room}
+use Rattle.run_store.specs.Tables.{Grouped, IsOfTable, IsGrouped, AreTables, put_all, without, store_cells, cells_of, index_of, log2s_of, least_room}
 
 pub one_table : (t u : TableId) → (t.0 == u.0) ≡ true → t ≡ u
 one_table t u same = let number : t.0 ≡ u.0 = grind (arith, nat_tests) in λ i. record { 0 = number i }
@@ -162,9 +162,9 @@ found_cells (x ∷ gs) rest t at g at_is within read =
       | false ↦ λ at_later. found_cells gs rest t (index_of gs t) g refl (omega arith) (read ∙ ap (λ n. get_or (x ∷ gs) n g) at_later)
     ] at_is
 
-pub found_is : (gs : List Grouped) (at : ℕ) (g : Grouped) → AreTables gs → at < length gs → g ≡ get_or gs at g → IsTable g
+pub found_is : (gs : List Grouped) (at : ℕ) (g : Grouped) → AreTables gs → at < length gs → g ≡ get_or gs at g → IsGrouped g
 found_is [] at g are within read = absurd (omega arith)
-found_is (x ∷ gs) zero g are within read = subst IsTable (sym read) are.0
+found_is (x ∷ gs) zero g are within read = subst IsGrouped (sym read) are.0
 found_is (x ∷ gs) (suc at) g are within read = found_is gs at g are.1 (omega arith) read
 
 pub missing_cells : (gs : List Grouped) (rest : Cells) (t : TableId) → length gs ≤ index_of gs t → cells_of gs rest t ≡ rest
@@ -175,7 +175,7 @@ missing_cells (x ∷ gs) rest t missing =
       | false ↦ λ none. missing_cells gs rest t (omega arith)
     ] missing
 
-pub AreTables-set : (gs : List Grouped) (at : ℕ) (g : Grouped) → AreTables gs → IsTable g → AreTables (set gs at g)
+pub AreTables-set : (gs : List Grouped) (at : ℕ) (g : Grouped) → AreTables gs → IsGrouped g → AreTables (set gs at g)
 AreTables-set [] at g are here = tt
 AreTables-set (x ∷ gs) zero g are here = (here, are.1)
 AreTables-set (x ∷ gs) (suc at) g are here = (are.0, AreTables-set gs at g are.1 here)
@@ -202,7 +202,7 @@ cells_of-set (x ∷ gs) rest t at g at_is within table u =
     ] refl at_is
 
 -- a change of what a table has at each token, in its runs
-pub found_changed : (change : TableId → Token → Option Cell → Option Cell) (gs : List Grouped) (rest : Cells) (t : TableId) (at : ℕ) (old new : Grouped) → AreTables gs → IsOrdered rest → at ≡ index_of gs t → at < length gs → old ≡ get_or gs at old → new.table ≡ t → IsTable new → ((u : TableId) (k : Token) (found : Option Cell) → (t.0 == u.0) ≡ false → change u k found ≡ found) → ((k : Token) → cell_at new.cells t k ≡ change t k (cell_at old.cells t k)) → (u : TableId) (k : Token) → cell_at (store_cells (set gs at new) rest) u k ≡ change u k (cell_at (store_cells gs rest) u k)
+pub found_changed : (change : TableId → Token → Option Cell → Option Cell) (gs : List Grouped) (rest : Cells) (t : TableId) (at : ℕ) (old new : Grouped) → AreTables gs → IsOrdered rest → at ≡ index_of gs t → at < length gs → old ≡ get_or gs at old → new.table ≡ t → IsGrouped new → ((u : TableId) (k : Token) (found : Option Cell) → (t.0 == u.0) ≡ false → change u k found ≡ found) → ((k : Token) → cell_at new.cells t k ≡ change t k (cell_at old.cells t k)) → (u : TableId) (k : Token) → cell_at (store_cells (set gs at new) rest) u k ≡ change u k (cell_at (store_cells gs rest) u k)
 found_changed change gs rest t at old new are ordered at_is within read table is others here u k =
     cell_at-store_cells (set gs at new) rest u k (AreTables-set gs at new are is) ordered
     ∙ rw (cells_of-set gs rest t at new at_is within table u, cell_at-store_cells gs rest u k are ordered) (
@@ -254,7 +254,7 @@ IsOfTable-put_at t (x ∷ xs) s own =
       ]
     ]
 
-pub put_is : (old new : Grouped) (s : Stored) → IsTable old → new.table ≡ old.table → new.log2 ≡ old.log2 → new.cells ≡ put_at old.cells (old.table, s) → IsTable new
+pub put_is : (old new : Grouped) (s : Stored) → IsGrouped old → new.table ≡ old.table → new.log2 ≡ old.log2 → new.cells ≡ put_at old.cells (old.table, s) → IsGrouped new
 put_is old new s is table log2 cells = record {
   few = omega (arith, is.few);
   ordered = rw cells (IsOrdered-put_at old.cells (old.table, s) is.ordered);
@@ -265,14 +265,14 @@ IsOfTable-filter : (t : TableId) (p : TableId × Stored → Bool) (xs : Cells) �
 IsOfTable-filter t p [] own = tt
 IsOfTable-filter t p (x ∷ xs) own = elim (p x) as (λ b. IsOfTable t (cond b (x ∷ filter p xs) (filter p xs))) [ true ↦ (own.0, IsOfTable-filter t p xs own.1) | false ↦ IsOfTable-filter t p xs own.1 ]
 
-pub drop_is : (old new : Grouped) (range : TokenRange) → IsTable old → new.table ≡ old.table → new.log2 ≡ old.log2 → new.cells ≡ outside old.cells old.table range → IsTable new
+pub drop_is : (old new : Grouped) (range : TokenRange) → IsGrouped old → new.table ≡ old.table → new.log2 ≡ old.log2 → new.cells ≡ outside old.cells old.table range → IsGrouped new
 drop_is old new range is table log2 cells = record {
   few = omega (arith, is.few);
   ordered = rw cells (IsOrdered-filter (λ e. not (is_inside old.table range e)) old.cells is.ordered);
   own = rw (table, cells) (IsOfTable-filter old.table (λ e. not (is_inside old.table range e)) old.cells is.own);
 }
 
-pub same_is : (old new : Grouped) → IsTable old → new.table ≡ old.table → new.log2 ≤ 10 → new.cells ≡ old.cells → IsTable new
+pub same_is : (old new : Grouped) → IsGrouped old → new.table ≡ old.table → new.log2 ≤ 10 → new.cells ≡ old.cells → IsGrouped new
 same_is old new is table few cells = record { few = few; ordered = rw cells is.ordered; own = rw (table, cells) is.own }
 
 pub least_room-set : (gs : List Grouped) (i gone : ℕ) (old new : Grouped) → old ≡ get_or gs i old → old.spare ≤ new.spare + gone → least_room gs ≤ least_room (set gs i new) + gone

@@ -24,14 +24,14 @@ IsOfTable table [] = Unit {0}
 IsOfTable table (e ∷ es) = (e.0.0 ≡ table.0) × IsOfTable table es
 
 -- at most 1024 runs, and cells of this table, in order
-pub record IsTable (grouped : Grouped) : Type 0 where
+pub record IsGrouped (grouped : Grouped) : Type 0 where
   pub few : grouped.log2 ≤ 10
   pub ordered : IsOrdered grouped.cells
   pub own : IsOfTable grouped.table grouped.cells
 
 abbrev pub AreTables : List Grouped → Type 0
 AreTables [] = Unit {0}
-AreTables (g ∷ gs) = IsTable g × AreTables gs
+AreTables (g ∷ gs) = IsGrouped g × AreTables gs
 
 -- the list with all these cells put in
 abbrev pub put_all : Cells → Cells → Cells

@@ -31,7 +31,11 @@ impl Model for RunStore {
 
     ghost Value = { Laid };
 
-    ghost view = { λ s. record { cells = store_cells s.tables.items s.rest.cells; spare = min s.rest.spare (least_room s.tables.items); log2s = log2s_of s.tables.items } };
+    ghost view = { λ s. record {
+      cells = store_cells s.tables.items s.rest.cells;
+      spare = min s.rest.spare (least_room s.tables.items);
+      log2s = log2s_of s.tables.items;
+    } };
 
     ghost invariant = { λ s. IsLaid s.tables.items s.rest.cells };
 }

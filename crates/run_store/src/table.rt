@@ -29,7 +29,12 @@ impl Model for TableRuns {
 
     ghost Value = { Grouped };
 
-    ghost view = { λ t. record { table = t.table; log2 = t.log2; cells = run_cells t.table t.runs.items; spare = least_spare t.runs.items } };
+    ghost view = { λ t. record {
+      table = t.table;
+      log2 = t.log2;
+      cells = run_cells t.table t.runs.items;
+      spare = least_spare t.runs.items;
+    } };
 
     ghost invariant = { λ t. IsGrouped t.table t.log2 t.runs.items };
 }

@@ -20,22 +20,22 @@ use Rattle.topo_state.specs.Rules.{IsFit}
 -- ---- whom a line names
 
 -- who does the event
-abbrev pub actor_of : LineEvent → Actor
-actor_of (Begin lane operation version) = ByLane lane
-actor_of (Take lane at) = ByLane lane
-actor_of (Timeout lane op) = ByLane lane
-actor_of (Apply host) = ByHost host
-actor_of (Quiet host version) = ByHost host
-actor_of (Serve host at) = ByHost host
-actor_of (Answer host at) = ByHost host
-actor_of (Clean host at) = ByHost host
-actor_of (Pull host session) = ByHost host
-actor_of (TakeChunk host at) = ByHost host
-actor_of (Look topo) = ByTopo topo
-actor_of (Ask topo host what) = ByTopo topo
-actor_of (Hear topo at) = ByTopo topo
-actor_of (Propose topo command) = ByTopo topo
-actor_of (Restart actor) = actor
+abbrev pub line_actor : LineEvent → Actor
+line_actor (Begin lane operation version) = ByLane lane
+line_actor (Take lane at) = ByLane lane
+line_actor (Timeout lane op) = ByLane lane
+line_actor (Apply host) = ByHost host
+line_actor (Quiet host version) = ByHost host
+line_actor (Serve host at) = ByHost host
+line_actor (Answer host at) = ByHost host
+line_actor (Clean host at) = ByHost host
+line_actor (Pull host session) = ByHost host
+line_actor (TakeChunk host at) = ByHost host
+line_actor (Look topo) = ByTopo topo
+line_actor (Ask topo host what) = ByTopo topo
+line_actor (Hear topo at) = ByTopo topo
+line_actor (Propose topo command) = ByTopo topo
+line_actor (Restart actor) = actor
 
 -- the lane or the coordinator of a shorthand is in the opening; `sync` names none
 abbrev pub HasOwner : Opening → Shorthand → Type 0
@@ -51,7 +51,7 @@ HasOwner opening (Ready topo session) = HasHost opening topo
 
 -- who does what a line says is in the opening
 abbrev pub HasActorOf : Opening → LineAct → Type 0
-HasActorOf opening (Event event) = HasPart opening (actor_of event)
+HasActorOf opening (Event event) = HasPart opening (line_actor event)
 HasActorOf opening (Short shorthand) = HasOwner opening shorthand
 
 -- whom a line asks is in the opening, and what it would create is of a fit size
@@ -88,9 +88,9 @@ NamesEvent lines (TakeChunk host at) = IsAmong lines at
 NamesEvent lines (Hear topo at) = IsAmong lines at
 NamesEvent lines event = Unit {0}
 
-abbrev pub Names : List SchedLine → LineAct → Type 0
-Names lines (Event event) = NamesEvent lines event
-Names lines (Short shorthand) = Unit {0}
+abbrev pub NamesAct : List SchedLine → LineAct → Type 0
+NamesAct lines (Event event) = NamesEvent lines event
+NamesAct lines (Short shorthand) = Unit {0}
 
 -- ---- schedules
 
@@ -101,7 +101,7 @@ pub record MayFollow (opening : Opening) (earlier : List SchedLine) (line : Sche
   pub rises : All (λ other. other.line < line.line) earlier
   pub actor : HasActorOf opening line.act
   pub fit : IsFitLine opening line.act
-  pub names : Names earlier line.act
+  pub names : NamesAct earlier line.act
 
 -- each of the lines may stand after those before it
 abbrev pub MayAllFollow : Opening → List SchedLine → List SchedLine → Type 0

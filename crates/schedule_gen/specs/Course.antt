@@ -24,8 +24,8 @@ abbrev pub action_of : ℕ → Action
 action_of a = if nat_lt a 3 then Write else if nat_lt a 6 then Read else if a == 6 then Delete else Step
 
 -- the hosts of a tablet's replicas
-abbrev pub hosts_of : Course → ℕ → List ℕ
-hosts_of course tablet = slice_index_or course.replicas tablet []
+abbrev pub course_hosts : Course → ℕ → List ℕ
+course_hosts course tablet = slice_index_or course.replicas tablet []
 
 -- ---- a start, where no move goes on
 
@@ -34,7 +34,7 @@ hosts_of course tablet = slice_index_or course.replicas tablet []
 abbrev pub started_move : Course → TabletMove
 started_move course = record {
   tablet = drawn_number 0 4 course.generator;
-  pending = least_absent (hosts_of course (drawn_number 0 4 course.generator));
+  pending = least_absent (course_hosts course (drawn_number 0 4 course.generator));
   session = course.steps + 1;
   stage = AllowWriteBothReadOld;
 }
@@ -42,7 +42,7 @@ started_move course = record {
 abbrev pub start_text : Course → List ℕ
 start_text course =
     let move = started_move course in
-    start_line move.tablet (slice_index (hosts_of course move.tablet) 0) move.pending
+    start_line move.tablet (slice_index (course_hosts course move.tablet) 0) move.pending
 
 abbrev pub course_after_start : Course → Course
 course_after_start course = record course {
@@ -64,7 +64,7 @@ course_after_advance moving (Some stage) course = record course {
 }
 course_after_advance moving None course = record course {
   steps = course.steps + 1;
-  replicas = slice_set course.replicas moving.tablet (slice_set (hosts_of course moving.tablet) 0 moving.pending);
+  replicas = slice_set course.replicas moving.tablet (slice_set (course_hosts course moving.tablet) 0 moving.pending);
   moving = None;
 }
 

@@ -24,5 +24,5 @@ abbrev pub drawn_number : ℕ → ℕ → Lcg → ℕ
 drawn_number draws below generator = next_word (generator_after draws generator) % below
 
 -- one of 64 tokens that are spread evenly over the ring
-abbrev pub token_of : ℕ → ℤ
-token_of k = pos (k * 2 ^ 58 + 1) -ℤ pos (2 ^ 63)
+abbrev pub drawn_token : ℕ → ℤ
+drawn_token k = pos (k * 2 ^ 58 + 1) -ℤ pos (2 ^ 63)

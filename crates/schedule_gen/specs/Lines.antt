@@ -6,7 +6,7 @@ use Rattle.rand_pcg.specs.Lcg.{Lcg}
 use Rattle.stage_graph.specs.declared.stage.Stage.{Stage}
 use Rattle.stage_graph.specs.declared.stage.Stage.TheVariants.{AllowWriteBothReadOld, WriteBothReadOld, Streaming, WriteBothReadNew, UseNew, Cleanup, EndMigration, FallbackCleanup, CleanupTarget, RevertMigration}
 use Rattle.stage_graph.specs.Words.{word}
-use Rattle.schedule_gen.specs.Draws.{drawn_number, token_of}
+use Rattle.schedule_gen.specs.Draws.{drawn_number, drawn_token}
 
 -- Five hosts with a lane each, and table 1 with four tablets of three replicas.
 unfoldable pub header : List ℕ
@@ -25,19 +25,19 @@ header =
 abbrev pub write_line : ℕ → Lcg → List ℕ
 write_line round generator =
     codes "do " ++ (decimal (drawn_number 0 5 generator)
-    ++ (codes ".0 write 1 " ++ (signed_decimal (token_of (drawn_number 1 64 generator))
+    ++ (codes ".0 write 1 " ++ (signed_decimal (drawn_token (drawn_number 1 64 generator))
     ++ (codes " live:" ++ (decimal round
     ++ (codes ":" ++ (encode_lower (drawn_number 2 256 generator ∷ []) ++ codes "\n")))))))
 
 abbrev pub read_line : Lcg → List ℕ
 read_line generator =
     codes "do " ++ (decimal (drawn_number 0 5 generator)
-    ++ (codes ".0 read 1 " ++ (signed_decimal (token_of (drawn_number 1 64 generator)) ++ codes "\n")))
+    ++ (codes ".0 read 1 " ++ (signed_decimal (drawn_token (drawn_number 1 64 generator)) ++ codes "\n")))
 
 abbrev pub delete_line : ℕ → Lcg → List ℕ
 delete_line round generator =
     codes "do " ++ (decimal (drawn_number 0 5 generator)
-    ++ (codes ".0 write 1 " ++ (signed_decimal (token_of (drawn_number 1 64 generator))
+    ++ (codes ".0 write 1 " ++ (signed_decimal (drawn_token (drawn_number 1 64 generator))
     ++ (codes " dead:" ++ (decimal round ++ (codes ":" ++ (decimal round ++ codes "\n")))))))
 
 -- A move of the tablet starts, from a leaving to a pending host.
@@ -47,9 +47,9 @@ start_line tablet leaving pending =
     ++ (codes " " ++ (decimal leaving ++ (codes ":0 " ++ (decimal pending ++ codes ":0\n")))))
 
 -- the word of the stage that a move goes to, or the one that ends it
-abbrev pub target_word : Option Stage → List ℕ
-target_word None = codes "none"
-target_word (Some stage) = word stage
+abbrev pub written_target : Option Stage → List ℕ
+written_target None = codes "none"
+written_target (Some stage) = word stage
 
 -- what has to be done before a move goes to a stage: cells are streamed before the pending replica is read, and the
 -- leaving one is cleaned before the end
@@ -70,4 +70,4 @@ before_advance session (Some RevertMigration) = []
 abbrev pub advance_lines : ℕ → Option Stage → List ℕ
 advance_lines session to =
     before_advance session to
-    ++ (codes "step 0 advance " ++ (decimal session ++ (codes " " ++ (target_word to ++ codes "\n"))))
+    ++ (codes "step 0 advance " ++ (decimal session ++ (codes " " ++ (written_target to ++ codes "\n"))))

@@ -2,7 +2,7 @@
 ghost use Rattle.std.specs.Prelude.{◌≡◌, ◌<◌, ◌+◌, ◌^◌, IfOk, OnOk, IfSome, find};
 ghost use Rattle.std.specs.String.{string_bytes};
 ghost use Rattle.schedule_gen.specs.Moves.{next_forward, is_absent, least_absent};
-ghost use Rattle.schedule_gen.specs.Course.{action_of, hosts_of, opening_course, round_text, next_course, start_text, course_after_start, advance_text, course_after_advance};
+ghost use Rattle.schedule_gen.specs.Course.{action_of, course_hosts, opening_course, round_text, next_course, start_text, course_after_start, advance_text, course_after_advance};
 
 use crate::draws::{draw, generator_of};
 use crate::lines::{advance_lines, delete_line, read_line, start_line, write_line};
@@ -90,7 +90,7 @@ impl Course {
     /// The hosts of a tablet's replicas.
     fn hosts_of(&self, tablet: u32) -> [u16; 3]
         requires { tablet < 4 }
-        ensures { result ≡ hosts_of self.now tablet }
+        ensures { result ≡ course_hosts self.now tablet }
     {
         self.replicas[tablet as usize]
     }

@@ -1,8 +1,8 @@
 // The lines of a schedule.
 ghost use Rattle.std.specs.Prelude.{◌≡◌, ◌<◌, IfOk, OnOk, ℤ};
 ghost use Rattle.std.specs.String.{string_bytes};
-ghost use Rattle.schedule_gen.specs.Draws.{generator_after, token_of};
-ghost use Rattle.schedule_gen.specs.Lines.{write_line, read_line, delete_line, start_line, advance_lines, before_advance, target_word};
+ghost use Rattle.schedule_gen.specs.Draws.{generator_after, drawn_token};
+ghost use Rattle.schedule_gen.specs.Lines.{write_line, read_line, delete_line, start_line, advance_lines, before_advance, written_target};
 
 use crate::draws::draw;
 use base_ids::NoMemory;
@@ -19,7 +19,7 @@ const TOKENS: u32 = 64;
 /// The number of one of the 64 tokens.
 fn token_of(k: u32) -> i64
     requires { k < 64 }
-    ensures { result ≡ token_of k }
+    ensures { result ≡ drawn_token k }
 {
     (i64::from(k) - 32) * (1 << 58) + 1
 }
@@ -94,7 +94,7 @@ fn before_advance(alloc: Global, session: u32, to: Option<Stage>) -> Result<Stri
 
 /// The word of a stage, or the one that ends a move.
 fn target_word(to: Option<Stage>) -> &'static str
-    ensures { result.now ≡ target_word to }
+    ensures { result.now ≡ written_target to }
 {
     match to {
         Some(stage) => stage.word(),

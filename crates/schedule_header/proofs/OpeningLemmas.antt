@@ -16,40 +16,40 @@ use Rattle.topo_state.specs.Rules.{is_bad_resize}
 use Rattle.topo_state.specs.Sound.{IsOnMembers, IsTable, IsTopology}
 use Rattle.topo_state.specs.Openings.{is_still, is_undecided, distinct_members, IsOpening}
 use Rattle.cluster_history.specs.Openings.{IsValidOpening, opening_state}
-use Rattle.schedule_header.specs.Header.{Header, host_count, members_of, hosts_below, opening_of}
-use Rattle.schedule_header.specs.Sound.{AreMembers, Ground, ground_of, IsPlaced, IsTableHere, IsSound}
+use Rattle.schedule_header.specs.Header.{Header, host_count, members_of, hosts_under, opening_of}
+use Rattle.schedule_header.specs.Sound.{AreMembers, Ground, ground_of, IsPlaced, IsTableHere, IsSoundHeader}
 use Rattle.schedule_header.proofs.ListLemmas.{member_behind, all_pass}
 use Rattle.schedule_header.proofs.MemberLemmas.{below}
 use Rattle.schedule_header.proofs.TableLemmas.{found_here}
 
 -- ---- all hosts as members
 
-hosts_length : (n : ℕ) → length (hosts_below n) ≡ n
+hosts_length : (n : ℕ) → length (hosts_under n) ≡ n
 hosts_length zero = refl
 hosts_length (suc n) =
     let last : HostId = record { 0 = n } in
-    let more : length (hosts_below n ++ last ∷ []) ≡ length (hosts_below n) + length (last ∷ []) = length-append (hosts_below n) (last ∷ []) in
-    let before : length (hosts_below n) ≡ n = hosts_length n in
+    let more : length (hosts_under n ++ last ∷ []) ≡ length (hosts_under n) + length (last ∷ []) = length-append (hosts_under n) (last ∷ []) in
+    let before : length (hosts_under n) ≡ n = hosts_length n in
     omega arith
 
 not_below : (n : ℕ) → nat_lt n n ≡ false
 not_below n = grind (arith, nat_tests)
 
-hosts_once : (n : ℕ) → distinct_members (hosts_below n) ≡ true
+hosts_once : (n : ℕ) → distinct_members (hosts_under n) ≡ true
 hosts_once zero = refl
 hosts_once (suc n) =
     let last : HostId = record { 0 = n } in
-    member_behind (hosts_below n) last (hosts_once n) (below n last ∙ not_below n)
+    member_behind (hosts_under n) last (hosts_once n) (below n last ∙ not_below n)
 
-hosts_within : (n : ℕ) → All (λ (h : HostId). h.0 < n) (hosts_below n)
+hosts_within : (n : ℕ) → All (λ (h : HostId). h.0 < n) (hosts_under n)
 hosts_within zero = All-nil (λ (h : HostId). h.0 < 0)
 hosts_within (suc n) =
     let last : HostId = record { 0 = n } in
-    All-push (λ (h : HostId). h.0 < suc n) (hosts_below n) last (All-weaker (λ (h : HostId). h.0 < n) (λ (h : HostId). h.0 < suc n) (λ h less. omega arith) (hosts_below n) (hosts_within n)) (omega arith)
+    All-push (λ (h : HostId). h.0 < suc n) (hosts_under n) last (All-weaker (λ (h : HostId). h.0 < n) (λ (h : HostId). h.0 < suc n) (λ h less. omega arith) (hosts_under n) (hosts_within n)) (omega arith)
 
-all_members : (n : ℕ) → 1 ≤ n → AreMembers n (hosts_below n)
+all_members : (n : ℕ) → 1 ≤ n → AreMembers n (hosts_under n)
 all_members n some =
-    let count : length (hosts_below n) ≡ n = hosts_length n in
+    let count : length (hosts_under n) ≡ n = hosts_length n in
     record { some = omega arith; once = hosts_once n; within = hosts_within n }
 
 -- ---- what is said, or holds where it is left out
@@ -85,7 +85,7 @@ table_there ground t here = record {
 
 -- ---- the opening
 
-sound_topology : (header : Header) → IsSound header → IsTopology (opening_state (opening_of header))
+sound_topology : (header : Header) → IsSoundHeader header → IsTopology (opening_state (opening_of header))
 sound_topology header sound = record {
   distinct = sound.distinct;
   few = sound.few;
@@ -93,10 +93,10 @@ sound_topology header sound = record {
   each = λ (id : TableId) (t : Table) e. table_there (ground_of header) t (found_here (IsTableHere (ground_of header)) header.tables id t sound.each e);
 }
 
-is_opening : (header : Header) → IsSound header → (1 ≤ host_count header) × (host_count header ≤ 64) → IsOpening (opening_state (opening_of header))
+is_opening : (header : Header) → IsSoundHeader header → (1 ≤ host_count header) × (host_count header ≤ 64) → IsOpening (opening_state (opening_of header))
 is_opening header sound hosts =
     let ground = ground_of header in
-    let members : AreMembers (host_count header) (members_of header) = said_or (AreMembers (host_count header)) header.members (hosts_below (host_count header)) sound.members (all_members (host_count header) hosts.0) in
+    let members : AreMembers (host_count header) (members_of header) = said_or (AreMembers (host_count header)) header.members (hosts_under (host_count header)) sound.members (all_members (host_count header) hosts.0) in
     record {
       version = refl;
       fence = refl;
@@ -112,7 +112,7 @@ is_opening header sound hosts =
       sound = sound_topology header sound;
     }
 
-pub valid : (header : Header) → IsSound header → is_some header.hosts ≡ true → is_some header.lanes ≡ true → IsValidOpening (opening_of header)
+pub valid : (header : Header) → IsSoundHeader header → is_some header.hosts ≡ true → is_some header.lanes ≡ true → IsValidOpening (opening_of header)
 valid header sound hosts lanes = record {
   lanes = said_so (λ (n : ℕ). (1 ≤ n) × (n ≤ 4)) header.lanes 0 sound.lanes lanes;
   topology = is_opening header sound (said_so (λ (n : ℕ). (1 ≤ n) × (n ≤ 64)) header.hosts 0 sound.hosts hosts);

@@ -20,7 +20,7 @@ use Rattle.text_grammar.specs.Shapes.{Place, Is, AreEach}
 use Rattle.text_grammar.specs.Rules.{bad_word}
 use Rattle.text_grammar.specs.declared.faults.LineError.TheVariants.{Fault as FaultIn, NoMemory}
 use Rattle.text_grammar.specs.Results.{Gives}
-use Rattle.text_grammar.specs.Readings.{◌>>=◌, is_end, read_each, reading}
+use Rattle.text_grammar.specs.Readings.{◌>>=◌, ends_line, read_each, reading}
 use Rattle.text_grammar.proofs.TellLaws.{each_keeps, is_so, is_within, AllTell, given_tells}
 use Rattle.schedule_words.specs.Places.{host, next_replica}
 use Rattle.schedule_header.specs.Header.{Header, host_count, shard_count, members_of}
@@ -128,16 +128,16 @@ members_tell hosts = λ words all some are.
 
 -- ---- what the code gives
 
-some_words : {A : Type 0} (words : List (List ℕ)) (r : Result A Fault) → is_end words ≡ false → cond (is_end words) (Err bad_word) r ≡ r
+some_words : {A : Type 0} (words : List (List ℕ)) (r : Result A Fault) → ends_line words ≡ false → cond (ends_line words) (Err bad_word) r ≡ r
 some_words words r some = rw some refl
 
 -- words told one by one, of which there are some
-replicas_read : {V : Type 0} (view : V → List Replica) (header : Header) (words : List (List ℕ)) (r : Result V LineError) → Gives view r (read_each (table_replica header) [] words) → is_end words ≡ false → Gives view r (reading (replicas_line header) words)
+replicas_read : {V : Type 0} (view : V → List Replica) (header : Header) (words : List (List ℕ)) (r : Result V LineError) → Gives view r (read_each (table_replica header) [] words) → ends_line words ≡ false → Gives view r (reading (replicas_line header) words)
 unfolding replicas_line
 replicas_read view header words (Ok v) gives some = some_words words _ some ∙ ap (λ (x : Result (List Replica) Fault). x >>= λ all. Ok all) gives
 replicas_read view header words (Err (FaultIn fault)) gives some = some_words words _ some ∙ ap (λ (x : Result (List Replica) Fault). x >>= λ all. Ok all) gives
 replicas_read view header words (Err NoMemory) gives some = tt
 
-pub given_replicas : {V : Type 0} (view : V → List Replica) (header : Header) (words : List (List ℕ)) (r : Result V LineError) → Gives view r (read_each (table_replica header) [] words) → is_end words ≡ false → IfOk r (λ v. AreReplicas (ground_of header) (view v))
+pub given_replicas : {V : Type 0} (view : V → List Replica) (header : Header) (words : List (List ℕ)) (r : Result V LineError) → Gives view r (read_each (table_replica header) [] words) → ends_line words ≡ false → IfOk r (λ v. AreReplicas (ground_of header) (view v))
 given_replicas view header words r gives some =
     given_tells view (AreReplicas (ground_of header)) (replicas_line header) words r (replicas_tell header) (replicas_read view header words r gives some)

@@ -19,7 +19,7 @@ use Rattle.text_grammar.specs.Shapes.{Is}
 use Rattle.text_grammar.proofs.TellLaws.{AllTell, is_so}
 use Rattle.schedule_header.specs.Header.{Header, TabletLine}
 use Rattle.schedule_header.specs.Forms.{count_by, count, count_line, replicas_line, named_table, may_place, named_tablet, tablet_line}
-use Rattle.schedule_header.specs.Sound.{ground_of, AreReplicas, IsTableHere, IsSound, CanPlace}
+use Rattle.schedule_header.specs.Sound.{ground_of, AreReplicas, IsTableHere, IsSoundHeader, CanPlace}
 use Rattle.schedule_header.proofs.ReplicaLemmas.{replicas_tell}
 use Rattle.schedule_header.proofs.TableLemmas.{found_here}
 
@@ -60,7 +60,7 @@ tablet_there header t w i is =
     let below : found.0 < length t.map.list = grind (arith, nat_tests) in
     subst (λ (x : TabletId). x.0 < length t.map.list) p.1 below
 
-can_place : (header : Header) → IsSound header → (t : Table) (i : TabletId) (replicas : List Replica) → table_in header.tables t.id ≡ Some t → i.0 < length t.map.list → AreReplicas (ground_of header) replicas → CanPlace header.tables (record { table = t.id; tablet = i; replicas = replicas })
+can_place : (header : Header) → IsSoundHeader header → (t : Table) (i : TabletId) (replicas : List Replica) → table_in header.tables t.id ≡ Some t → i.0 < length t.map.list → AreReplicas (ground_of header) replicas → CanPlace header.tables (record { table = t.id; tablet = i; replicas = replicas })
 can_place header sound t i replicas found below are =
     let here : IsTableHere (ground_of header) t = found_here (IsTableHere (ground_of header)) header.tables t.id t sound.each found in
     record {
@@ -74,13 +74,13 @@ pub record TellsTablet (header : Header) (line : TabletLine) : Type 0 where
   pub can : CanPlace header.tables line
   pub replicas : AreReplicas (ground_of header) line.replicas
 
-pub tablet_said : (header : Header) → IsSound header → AllTell (TellsTablet header) (tablet_line header)
+pub tablet_said : (header : Header) → IsSoundHeader header → AllTell (TellsTablet header) (tablet_line header)
 unfolding tablet_line replicas_line
 tablet_said header sound = λ w t is v i js words all some are.
     let told = replicas_tell header words all some are in
     record { can = can_place header sound t i all (named_there header.tables w t is) (tablet_there header t v i js) told; replicas = told }
 
-pub tablet_tells : (header : Header) → IsSound header → AllTell (CanPlace header.tables) (tablet_line header)
+pub tablet_tells : (header : Header) → IsSoundHeader header → AllTell (CanPlace header.tables) (tablet_line header)
 unfolding tablet_line replicas_line
 tablet_tells header sound = λ w t is v i js words all some are.
     can_place header sound t i all (named_there header.tables w t is) (tablet_there header t v i js) (replicas_tell header words all some are)

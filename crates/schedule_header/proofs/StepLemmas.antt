@@ -23,7 +23,7 @@ use Rattle.schedule_words.specs.declared.verbs.HeaderVerb.{HeaderVerb}
 use Rattle.schedule_words.specs.declared.verbs.HeaderVerb.TheVariants.{Tablets as TabletsWord, Hosts as HostsWord, Lanes as LanesWord, Shards as ShardsWord, Members as MembersWord, Table as TableWord, Tablet as TabletWord, Go as GoWord}
 use Rattle.schedule_header.specs.Header.{Header, no_header, Said, SaidTable, SaidTablet, TabletLine, host_count, may_stand, is_before_members, after_said, Step, step_of}
 use Rattle.schedule_header.specs.Forms.{new_table, table_size, table_line, replicas_line, count_line, members_line, tablet_line, line_by, verb_if, header_line}
-use Rattle.schedule_header.specs.Sound.{AreMembers, ground_of, AreReplicas, IsTableHere, IsSound, IsSoundStep}
+use Rattle.schedule_header.specs.Sound.{AreMembers, ground_of, AreReplicas, IsTableHere, IsSoundHeader, IsSoundStep}
 use Rattle.schedule_header.proofs.ReplicaLemmas.{replicas_tell, members_tell}
 use Rattle.schedule_header.proofs.SizeLemmas.{log2_few}
 use Rattle.schedule_header.proofs.TableLemmas.{new_here, new_count, new_size, new_distinct, placed_distinct, placed_length, placed_count, all_placed}
@@ -47,7 +47,7 @@ no_items [] e = refl
 no_items (x ∷ rest) e = absurd (cc)
 
 -- a header of which nothing is said
-pub first_sound : IsSound no_header
+pub first_sound : IsSoundHeader no_header
 first_sound = record {
   first = λ e. refl;
   hosts = tt;
@@ -62,7 +62,7 @@ first_sound = record {
 
 -- ---- counts and members
 
-first_count : (n : ℕ) → (1 ≤ n) × (n ≤ 64) → IsSound (record no_header { hosts = Some n })
+first_count : (n : ℕ) → (1 ≤ n) × (n ≤ 64) → IsSoundHeader (record no_header { hosts = Some n })
 first_count n within = record {
   first = λ e. absurd (cc);
   hosts = within;
@@ -75,11 +75,11 @@ first_count n within = record {
   each = All-nil _;
 }
 
-keep_hosts : (header : Header) → IsSound header → is_none header.hosts ≡ true → (n : ℕ) → (1 ≤ n) × (n ≤ 64) → IsSound (record header { hosts = Some n })
+keep_hosts : (header : Header) → IsSoundHeader header → is_none header.hosts ≡ true → (n : ℕ) → (1 ≤ n) × (n ≤ 64) → IsSoundHeader (record header { hosts = Some n })
 keep_hosts header sound none n within =
-    subst (λ (h : Header). IsSound (record h { hosts = Some n })) (sym (sound.first (none_of header.hosts none))) (first_count n within)
+    subst (λ (h : Header). IsSoundHeader (record h { hosts = Some n })) (sym (sound.first (none_of header.hosts none))) (first_count n within)
 
-keep_lanes : (header : Header) → IsSound header → is_some header.hosts ≡ true → (n : ℕ) → (1 ≤ n) × (n ≤ 4) → IsSound (record header { lanes = Some n })
+keep_lanes : (header : Header) → IsSoundHeader header → is_some header.hosts ≡ true → (n : ℕ) → (1 ≤ n) × (n ≤ 4) → IsSoundHeader (record header { lanes = Some n })
 keep_lanes header sound some n within = record {
   first = λ e. absurd (not_none header.hosts some e);
   hosts = sound.hosts;
@@ -95,7 +95,7 @@ keep_lanes header sound some n within = record {
 none_here : (P : Table → Type 0) (tables : List Table) → is_empty tables ≡ true → All P tables
 none_here P tables empty = subst (All P) (sym (no_items tables empty)) (All-nil P)
 
-keep_shards : (header : Header) → IsSound header → is_some header.hosts ≡ true → is_empty header.tables ≡ true → (n : ℕ) → (1 ≤ n) × (n ≤ 16) → IsSound (record header { shards = Some n })
+keep_shards : (header : Header) → IsSoundHeader header → is_some header.hosts ≡ true → is_empty header.tables ≡ true → (n : ℕ) → (1 ≤ n) × (n ≤ 16) → IsSoundHeader (record header { shards = Some n })
 keep_shards header sound some empty n within = record {
   first = λ e. absurd (not_none header.hosts some e);
   hosts = sound.hosts;
@@ -108,7 +108,7 @@ keep_shards header sound some empty n within = record {
   each = none_here (IsTableHere (ground_of (record header { shards = Some n }))) header.tables empty;
 }
 
-keep_members : (header : Header) → IsSound header → is_some header.hosts ≡ true → is_empty header.tables ≡ true → (list : List HostId) → AreMembers (host_count header) list → IsSound (record header { members = Some list })
+keep_members : (header : Header) → IsSoundHeader header → is_some header.hosts ≡ true → is_empty header.tables ≡ true → (list : List HostId) → AreMembers (host_count header) list → IsSoundHeader (record header { members = Some list })
 keep_members header sound some empty list are = record {
   first = λ e. absurd (not_none header.hosts some e);
   hosts = sound.hosts;
@@ -147,7 +147,7 @@ size_there tables w b is =
     let fits : tablet_count tables + 2 ^ found ≤ 1024 = grind (arith, nat_tests) in
     subst (λ (x : ℕ). (x ≤ 10) × (tablet_count tables + 2 ^ x ≤ 1024)) p.1 (log2_few w found is.1, fits)
 
-keep_table : (header : Header) → IsSound header → is_some header.hosts ≡ true → (t : Table) → is_some (table_in header.tables t.id) ≡ false → length header.tables < 64 → tablet_count header.tables + length t.map.list ≤ 1024 → IsTableHere (ground_of header) t → IsSound (record header { tables = header.tables ++ t ∷ [] })
+keep_table : (header : Header) → IsSoundHeader header → is_some header.hosts ≡ true → (t : Table) → is_some (table_in header.tables t.id) ≡ false → length header.tables < 64 → tablet_count header.tables + length t.map.list ≤ 1024 → IsTableHere (ground_of header) t → IsSoundHeader (record header { tables = header.tables ++ t ∷ [] })
 keep_table header sound some t new few count here =
     let one : length (header.tables ++ t ∷ []) ≡ length header.tables + length (t ∷ []) = length-append header.tables (t ∷ []) in
     let more : tablet_count (header.tables ++ t ∷ []) ≡ tablet_count header.tables + length t.map.list = new_count header.tables t in
@@ -163,7 +163,7 @@ keep_table header sound some t new few count here =
       each = All-push (IsTableHere (ground_of header)) header.tables t sound.each here;
     }
 
-table_keeps : (header : Header) → IsSound header → is_some header.hosts ≡ true → AllTell (λ t. KeepsSound header (SaidTable t)) (table_line header)
+table_keeps : (header : Header) → IsSoundHeader header → is_some header.hosts ≡ true → AllTell (λ t. KeepsSound header (SaidTable t)) (table_line header)
 unfolding table_line replicas_line
 table_keeps header sound some = λ w id is v b js words all any are.
     let new = new_there header.tables w id is in
@@ -176,7 +176,7 @@ table_keeps header sound some = λ w id is v b js words all any are.
     replicas_tell_at : AllTell (AreReplicas (ground_of header)) (replicas_line header)
     replicas_tell_at = replicas_tell header
 
-keep_tablet : (header : Header) → IsSound header → is_some header.hosts ≡ true → (line : TabletLine) → AreReplicas (ground_of header) line.replicas → IsSound (after_said header (SaidTablet line))
+keep_tablet : (header : Header) → IsSoundHeader header → is_some header.hosts ≡ true → (line : TabletLine) → AreReplicas (ground_of header) line.replicas → IsSoundHeader (after_said header (SaidTablet line))
 keep_tablet header sound some line are = record {
   first = λ e. absurd (not_none header.hosts some e);
   hosts = sound.hosts;
@@ -194,7 +194,7 @@ keep_tablet header sound some line are = record {
 abbrev TellsSound : Header → HeaderVerb → Type 0
 TellsSound header verb = may_stand header verb ≡ true → AllTell (KeepsSound header) (line_by header verb)
 
-by_verb : (header : Header) → IsSound header → (verb : HeaderVerb) → TellsSound header verb
+by_verb : (header : Header) → IsSoundHeader header → (verb : HeaderVerb) → TellsSound header verb
 by_verb header sound TabletsWord = λ may ws said e. absurd (cc)
 by_verb header sound HostsWord = λ may. all_weaker _ _ (keep_hosts header sound may) (count_line (2 ^ 16) 64 Hosts) (count_tells (2 ^ 16) 64 Hosts)
 by_verb header sound LanesWord = λ may. all_weaker _ _ (keep_lanes header sound (and_left _ _ may)) (count_line (2 ^ 8) 4 Lanes) (count_tells (2 ^ 8) 4 Lanes)
@@ -213,16 +213,16 @@ may_there header None verb e = absurd (cc)
 may_there header (Some v) verb e =
     let p = is_so (may_stand header v) BadHeader v verb e in subst (λ (x : HeaderVerb). may_stand header x ≡ true) p.1 p.0
 
-pub line_keeps : (header : Header) → IsSound header → AllTell (KeepsSound header) (header_line header)
+pub line_keeps : (header : Header) → IsSoundHeader header → AllTell (KeepsSound header) (header_line header)
 unfolding header_line
 line_keeps header sound = λ w verb is. by_verb header sound verb (may_there header (header_word w) verb is)
 
 -- so does each that is read
-step_keeps : (header : Header) (words : List (List ℕ)) → IsSound header → (found : Result Said Fault) → reading (header_line header) words ≡ found → (step : Step) → (found >>= λ said. Ok (step_of header said)) ≡ Ok step → IsSoundStep step
+step_keeps : (header : Header) (words : List (List ℕ)) → IsSoundHeader header → (found : Result Said Fault) → reading (header_line header) words ≡ found → (step : Step) → (found >>= λ said. Ok (step_of header said)) ≡ Ok step → IsSoundStep step
 step_keeps header words sound (Ok said) e step h =
     let same : step_of header said ≡ step = cc in
     subst IsSoundStep same (read_tells (KeepsSound header) (header_line header) words said (line_keeps header sound) e)
 step_keeps header words sound (Err fault) e step h = absurd (cc)
 
-pub next_sound : (header : Header) (words : List (List ℕ)) (step : Step) → IsSound header → (reading (header_line header) words >>= λ said. Ok (step_of header said)) ≡ Ok step → IsSoundStep step
+pub next_sound : (header : Header) (words : List (List ℕ)) (step : Step) → IsSoundHeader header → (reading (header_line header) words >>= λ said. Ok (step_of header said)) ≡ Ok step → IsSoundStep step
 next_sound header words step sound e = step_keeps header words sound (reading (header_line header) words) refl step e

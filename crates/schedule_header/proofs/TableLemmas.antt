@@ -12,7 +12,7 @@ use Rattle.tablet_map.specs.Calls.{at_rest, new_tablets}
 use Rattle.tablet_map.specs.Replicas.{IsReplicaSet}
 use Rattle.tablet_map.specs.Tablets.{IsMap, IsSound as IsSoundTablet}
 use Rattle.topo_state.specs.declared.data.Table.{Table}
-use Rattle.topo_state.specs.Tables.{table_in, has_id, are_distinct, tablet_count}
+use Rattle.topo_state.specs.Tables.{table_in, has_id, have_distinct_ids, tablet_count}
 use Rattle.std.proofs.lemmas.List.Quantifiers.{position-Some}
 use Rattle.topo_state.proofs.ChangeLemmas.{found_place}
 use Rattle.topo_state.proofs.TableLemmas.{none_of}
@@ -43,7 +43,7 @@ none_has (t ∷ rest) id e =
     elim (id.0 == t.id.0) as (λ (v : Bool). cond v (Some t) (table_in rest id) ≡ None → (v || list_any (has_id id) rest) ≡ false)
     [ true ↦ λ h. absurd (cc) | false ↦ λ h. none_has rest id h ] e
 
-pub new_distinct : (tables : List Table) (new : Table) → are_distinct tables ≡ true → is_some (table_in tables new.id) ≡ false → are_distinct (tables ++ new ∷ []) ≡ true
+pub new_distinct : (tables : List Table) (new : Table) → have_distinct_ids tables ≡ true → is_some (table_in tables new.id) ≡ false → have_distinct_ids (tables ++ new ∷ []) ≡ true
 new_distinct tables new distinct none = table_behind tables new distinct (none_has tables new.id (none_of (table_in tables new.id) none))
 
 -- ---- a table that is found
@@ -64,12 +64,12 @@ same_ids line id (t ∷ rest) =
     elim (same_table line.table t.id) as (λ (v : Bool). list_any (has_id id) (cond v (placed_in line t ∷ rest) (t ∷ placed_tables line rest)) ≡ list_any (has_id id) (t ∷ rest))
     [ true ↦ refl | false ↦ ap (λ (b : Bool). has_id id t || b) (same_ids line id rest) ]
 
-pub placed_distinct : (line : TabletLine) (tables : List Table) → are_distinct (placed_tables line tables) ≡ are_distinct tables
+pub placed_distinct : (line : TabletLine) (tables : List Table) → have_distinct_ids (placed_tables line tables) ≡ have_distinct_ids tables
 placed_distinct line [] = refl
 placed_distinct line (t ∷ rest) =
-    elim (same_table line.table t.id) as (λ (v : Bool). are_distinct (cond v (placed_in line t ∷ rest) (t ∷ placed_tables line rest)) ≡ are_distinct (t ∷ rest)) [
+    elim (same_table line.table t.id) as (λ (v : Bool). have_distinct_ids (cond v (placed_in line t ∷ rest) (t ∷ placed_tables line rest)) ≡ have_distinct_ids (t ∷ rest)) [
       | true ↦ refl
-      | false ↦ ap (λ (b : Bool). not b && are_distinct (placed_tables line rest)) (same_ids line t.id rest) ∙ ap (λ (b : Bool). not (list_any (has_id t.id) rest) && b) (placed_distinct line rest)
+      | false ↦ ap (λ (b : Bool). not b && have_distinct_ids (placed_tables line rest)) (same_ids line t.id rest) ∙ ap (λ (b : Bool). not (list_any (has_id t.id) rest) && b) (placed_distinct line rest)
     ]
 
 pub placed_length : (line : TabletLine) (tables : List Table) → length (placed_tables line tables) ≡ length tables

@@ -44,9 +44,9 @@ no_header = record { hosts = None; lanes = None; shards = None; members = None; 
 -- ---- the opening
 
 -- the hosts below a number
-abbrev pub hosts_below : ℕ → List HostId
-hosts_below zero = []
-hosts_below (suc n) = hosts_below n ++ record { 0 = n } ∷ []
+abbrev pub hosts_under : ℕ → List HostId
+hosts_under zero = []
+hosts_under (suc n) = hosts_under n ++ record { 0 = n } ∷ []
 
 -- one shard for each host, and all hosts as members, where the header says nothing of them
 abbrev pub host_count : Header → ℕ
@@ -59,7 +59,7 @@ abbrev pub shard_count : Header → ℕ
 shard_count header = unwrap_or header.shards 1
 
 abbrev pub members_of : Header → List HostId
-members_of header = unwrap_or header.members (hosts_below (host_count header))
+members_of header = unwrap_or header.members (hosts_under (host_count header))
 
 -- how the cluster stands at first
 abbrev pub opening_of : Header → Opening

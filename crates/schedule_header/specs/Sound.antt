@@ -8,7 +8,7 @@ use Rattle.tablet_map.specs.Tablets.{IsMap, tablet_in}
 use Rattle.tablet_map.specs.declared.tablet.Tablet.{Tablet}
 use Rattle.topo_state.specs.declared.data.Table.{Table}
 use Rattle.topo_state.specs.State.{is_on_member}
-use Rattle.topo_state.specs.Tables.{table_in, are_distinct, tablet_count}
+use Rattle.topo_state.specs.Tables.{table_in, have_distinct_ids, tablet_count}
 use Rattle.topo_state.specs.Openings.{distinct_members}
 use Rattle.cluster_history.specs.Openings.{IsValidOpening}
 use Rattle.schedule_header.specs.Header.{Header, Step, More, Opened, TabletLine, no_header, host_count, shard_count, members_of}
@@ -50,20 +50,20 @@ pub record IsTableHere (ground : Ground) (table : Table) : Type 0 where
 
 -- Nothing is said before the count of hosts. Counts are within their limits, members are hosts, and the tables have
 -- distinct numbers, are at most 64 with at most 1024 tablets in all, and stand on members.
-pub record IsSound (header : Header) : Type 0 where
+pub record IsSoundHeader (header : Header) : Type 0 where
   pub first : header.hosts ≡ None → header ≡ no_header
   pub hosts : IfSome header.hosts (λ n. (1 ≤ n) × (n ≤ 64))
   pub lanes : IfSome header.lanes (λ n. (1 ≤ n) × (n ≤ 4))
   pub shards : IfSome header.shards (λ n. (1 ≤ n) × (n ≤ 16))
   pub members : IfSome header.members (AreMembers (host_count header))
-  pub distinct : are_distinct header.tables ≡ true
+  pub distinct : have_distinct_ids header.tables ≡ true
   pub few : length header.tables ≤ 64
   pub tablets : tablet_count header.tables ≤ 1024
   pub each : All (IsTableHere (ground_of header)) header.tables
 
 -- what a line makes of a header is sound, and so is the opening at `go`
 abbrev pub IsSoundStep : Step → Type 0
-IsSoundStep (More header) = IsSound header
+IsSoundStep (More header) = IsSoundHeader header
 IsSoundStep (Opened opening) = IsValidOpening opening
 
 -- a tablet may be given these replicas: its table is there, the tablet is in it and does not move

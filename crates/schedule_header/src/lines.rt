@@ -5,7 +5,7 @@ ghost use Rattle.text_grammar.specs.Readings.{reading};
 ghost use Rattle.text_grammar.specs.Results.{Gives};
 ghost use Rattle.schedule_header.specs.Header.{no_header, is_before_members, may_stand, opening_of};
 ghost use Rattle.schedule_header.specs.Forms.{first_word, is_first};
-ghost use Rattle.schedule_header.specs.Sound.{IsSound};
+ghost use Rattle.schedule_header.specs.Sound.{IsSoundHeader};
 ghost use Rattle.schedule_header.specs.Code.{header_in, step_in, step_by, next_step};
 ghost use Rattle.schedule_words.specs.declared.verbs.HeaderVerb.TheVariants.{Tablet as TabletWord};
 
@@ -116,7 +116,7 @@ fn opening(alloc: Global, header: HeaderState) -> Result<Opening, NoMemory>
 
 /// What a line that begins with `tablet` makes.
 fn place_line(alloc: Global, header: HeaderState, words: &[u8]) -> Result<HeaderStep, LineError>
-    requires { IsSound (header_in header) }
+    requires { IsSoundHeader (header_in header) }
     ensures { Gives step_in result (step_by (header_in header) TabletWord (words_of words.now)) }
 {
     let mut header = header;
@@ -133,7 +133,7 @@ fn line_by(
     header: HeaderState,
     words: &[u8],
 ) -> Result<HeaderStep, LineError>
-    requires { IsSound (header_in header) }
+    requires { IsSoundHeader (header_in header) }
     ensures { Gives step_in result (step_by (header_in header) verb (words_of words.now)) }
 {
     let mut header = header;
@@ -173,7 +173,7 @@ fn line_by(
 /// What a line of the header makes.
 #[tactic(auto, unfolding(crate::specs::Forms::header_line))]
 pub fn header_line(alloc: Global, header: HeaderState, line: &[u8]) -> Result<HeaderStep, LineError>
-    requires { IsSound (header_in header) }
+    requires { IsSoundHeader (header_in header) }
     ensures { Gives step_in result (next_step (header_in header) (words_of line.now)) }
 {
     let (word, words) = next_word(line)?;

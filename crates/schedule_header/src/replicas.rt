@@ -10,12 +10,12 @@ ghost use Rattle.schedule_header.specs.Forms.{may_hold, table_replica, replicas_
 ghost use Rattle.schedule_header.specs.Sound.{AreReplicas, ground_of};
 ghost use Rattle.schedule_header.specs.Code.{header_in};
 
-use crate::members::is_member;
 use crate::state::HeaderState;
 use base_ids::{HostId, Replica};
 use schedule_words::next_replica;
 use std::alloc::Global;
 use text_grammar::{Fault, LineError, TextRule, is_end, next_word};
+use topo_state::is_member;
 
 /// Whether the replica is on the host.
 fn is_on(host: HostId, replica: Replica) -> bool

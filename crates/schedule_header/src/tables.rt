@@ -9,7 +9,7 @@ ghost use Rattle.text_grammar.specs.Results.{Gives};
 ghost use Rattle.schedule_words.specs.Places.{log2};
 ghost use Rattle.schedule_header.specs.Header.{is_placed, is_placed_at, placed_in, placed_tables};
 ghost use Rattle.schedule_header.specs.Forms.{new_table, table_size, table_line, named_table, may_place, named_tablet, tablet_line};
-ghost use Rattle.schedule_header.specs.Sound.{IsSound, CanPlace};
+ghost use Rattle.schedule_header.specs.Sound.{IsSoundHeader, CanPlace};
 ghost use Rattle.schedule_header.specs.Code.{header_in, seen_table, line_in};
 
 use crate::replicas::replicas_line;
@@ -20,7 +20,7 @@ use std::alloc::Global;
 use tablet_map::TabletMap;
 use text_grammar::{Fault, LineError, TextRule, next_word};
 use token_ring::TabletId;
-use topo_state::Table;
+use topo_state::{Table, table_in, tablet_count};
 
 /// Other replicas for one tablet of a table.
 #[derive(Debug, Drop)]
@@ -31,30 +31,6 @@ pub struct OtherReplicas {
     pub(crate) tablet: TabletId,
     /// The replicas, 1 to 8.
     pub(crate) replicas: Vec<Replica>,
-}
-
-/// The table of a number.
-fn table_in(tables: &[Table], id: TableId) -> Option<&Table>
-    ensures { option_copied result ≡ table_in tables.now id }
-{
-    for table in tables {
-        if table.id == id {
-            return Some(table);
-        }
-    }
-    None
-}
-
-/// How many tablets there are in all tables.
-fn tablet_count(tables: &[Table]) -> usize
-    requires { tablet_count tables.now ≤ 1024 }
-    ensures { result ≡ tablet_count tables.now }
-{
-    let mut count = 0;
-    for table in tables {
-        count += table.map.tablets().len();
-    }
-    count
 }
 
 /// The number of a table that is not there yet. One that is there is `BadHeader`, and one behind 64 others passes the
@@ -112,7 +88,7 @@ pub(crate) fn table_line(
     header: &HeaderState,
     words: &[u8],
 ) -> Result<Table, LineError>
-    requires { IsSound (header_in header.now) }
+    requires { IsSoundHeader (header_in header.now) }
     ensures { Gives (λ table. table) result (reading (table_line (header_in header.now)) (words_of words.now)) }
 {
     let (word, words) = next_word(words)?;
@@ -198,7 +174,7 @@ pub(crate) fn tablet_line(
     header: &HeaderState,
     words: &[u8],
 ) -> Result<OtherReplicas, LineError>
-    requires { IsSound (header_in header.now) }
+    requires { IsSoundHeader (header_in header.now) }
     ensures read { Gives line_in result (reading (tablet_line (header_in header.now)) (words_of words.now)) }
     ensures ready { IfOk result (λ line. CanPlace (header_in header.now).tables (line_in line)) }
 {

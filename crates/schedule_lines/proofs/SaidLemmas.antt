@@ -12,15 +12,15 @@ use Rattle.cluster_history.specs.Openings.{HasHost, HasLane, HasPart}
 use Rattle.cluster_history.specs.declared.data.Opening.{Opening}
 use Rattle.cluster_history.specs.declared.data.Operation.{Operation}
 use Rattle.cluster_history.specs.declared.data.Operation.TheVariants.{Read, Write}
-use Rattle.schedule_data.specs.Playable.{HasOwner, IsAmong, IsFitLine, NamesEvent, actor_of}
+use Rattle.schedule_data.specs.Playable.{HasOwner, IsAmong, IsFitLine, NamesEvent, line_actor}
 use Rattle.schedule_data.specs.declared.data.LineAct.{LineAct}
 use Rattle.schedule_data.specs.declared.data.LineAct.TheVariants.{Event, Short}
 use Rattle.schedule_data.specs.declared.data.LineEvent.{LineEvent}
 use Rattle.schedule_data.specs.declared.data.LineRef.{LineRef}
 use Rattle.schedule_data.specs.declared.data.SchedLine.{SchedLine}
 use Rattle.schedule_data.specs.declared.data.Shorthand.{Shorthand}
-use Rattle.schedule_lines.specs.Forms.{First, OfEvent, OfLabel, OfShort, act_by, act_form, actor, actor_by, advance, ask, at_version, begin, command, command_by, create, do_form, event, event_by, finalize, host_event, lane_event, member, of_command, of_host, of_lane, of_lane_message, of_lane_request, of_message, of_session, of_version, operation, operation_by, read_form, resize, set_fence, short_by, start, topo_event, what, what_by, what_session, what_version, write}
-use Rattle.schedule_lines.specs.Said.{AreCountsOf, AreLabelsOf, IsSaid}
+use Rattle.schedule_lines.specs.Forms.{First, OfEvent, OfLabel, OfShort, act_by, act_form, actor, actor_by, advance, ask, at_version, begin, command, command_by, create, do_form, event, event_by, finalize, host_event, lane_event, host_named, of_command, of_host, of_lane, of_lane_message, of_lane_request, of_message, of_session, of_version, operation, operation_by, read_form, resize, set_fence, short_by, start, topo_event, what, what_by, what_session, what_version, write}
+use Rattle.schedule_lines.specs.Said.{AreCountsOf, AreLabelsOf, IsSaidAct}
 use Rattle.schedule_lines.specs.declared.verbs.ActorWord.{ActorWord}
 use Rattle.schedule_lines.specs.declared.verbs.ActorWord.TheVariants.{Host as HostWord, Lane as LaneWord, Topo as TopoWord}
 use Rattle.schedule_lines.specs.declared.verbs.CommandVerb.{CommandVerb}
@@ -45,7 +45,7 @@ use Rattle.schedule_words.specs.Words.{is_letter}
 use Rattle.schedule_words.specs.declared.counts.Counts.{Counts}
 use Rattle.text_grammar.proofs.TellLaws.{AllTell, all_tell, each_keeps, is_so, is_within}
 use Rattle.text_grammar.specs.Readings.{given}
-use Rattle.text_grammar.specs.Shapes.{AreEach, Each, Either, End, EndOr, Is, Made, Place, Shape, Spells, Whole, Word, begins}
+use Rattle.text_grammar.specs.Shapes.{AreEach, Each, Either, End, EndOr, Is, Made, Place, Shape, Spells, Whole, Word, begins_with}
 use Rattle.text_grammar.specs.declared.faults.Fault.{Fault}
 use Rattle.text_grammar.specs.declared.faults.TextRule.TheVariants.{BadActor, NoLabel}
 use Rattle.topo_state.specs.Rules.{IsFit}
@@ -102,7 +102,7 @@ labelled labels name number e = go (labels name) e
 
 reference_among : (lines : List SchedLine) (labels : LineOf) → AreLabelsOf lines labels → (w : List ℕ) (at : LineRef) → Is (reference labels) w at → IsAmong lines at
 unfolding reference
-reference_among lines labels are w at is = go (begins is_letter w) is
+reference_among lines labels are w at is = go (begins_with is_letter w) is
   where
     go : (test : Bool) → Either test (Is (by_label labels) w at) (Is by_entry w at) → IsAmong lines at
     go true told = subst (IsAmong lines) (same_told told.5.2) (are told.0 told.2 (labelled labels told.0 told.2 told.4))
@@ -141,7 +141,7 @@ create_fit = λ w t is v b js ws all some are.
     )
 
 command_fit : AllTell IsFit command
-unfolding command start advance set_fence member resize finalize
+unfolding command start advance set_fence host_named resize finalize
 command_fit = λ w verb is. go verb
   where
     go : (verb : CommandVerb) → AllTell IsFit (command_by verb)
@@ -179,7 +179,7 @@ what_tells P holds = λ w verb is. go verb
 
 -- what an event names is so
 abbrev IsEventSaid : Opening → List SchedLine → LineEvent → Type 0
-IsEventSaid opening lines e = HasPart opening (actor_of e) × IsFitLine opening (Event e) × NamesEvent lines e
+IsEventSaid opening lines e = HasPart opening (line_actor e) × IsFitLine opening (Event e) × NamesEvent lines e
 
 lane_event_said : (opening : Opening) (counts : Counts) (same : AreCountsOf opening counts) (lines : List SchedLine) (labels : LineOf) → AreLabelsOf lines labels → (verb : LaneVerb) → AllTell (IsEventSaid opening lines) (lane_event counts labels verb)
 unfolding begin at_version of_lane_message of_lane_request
@@ -250,23 +250,23 @@ short_said opening counts same ReadyVerb = λ w h is v s js. (host_in opening co
 
 -- ---- lines
 
-acts_said : (opening : Opening) (counts : Counts) (same : AreCountsOf opening counts) (lines : List SchedLine) (labels : LineOf) → AreLabelsOf lines labels → AllTell (IsSaid opening lines) (act_form counts labels)
+acts_said : (opening : Opening) (counts : Counts) (same : AreCountsOf opening counts) (lines : List SchedLine) (labels : LineOf) → AreLabelsOf lines labels → AllTell (IsSaidAct opening lines) (act_form counts labels)
 unfolding act_form event
 acts_said opening counts same lines labels are = λ w first is. go first
   where
-    of_event : (label : Option (List ℕ)) (e : LineEvent) → IsEventSaid opening lines e → IsSaid opening lines (label, Event e)
+    of_event : (label : Option (List ℕ)) (e : LineEvent) → IsEventSaid opening lines e → IsSaidAct opening lines (label, Event e)
     of_event label e said = record { actor = said.0; fit = said.1; names = said.2; labelled = λ _. tt }
 
-    of_short : (s : Shorthand) → IsShortSaid opening s → IsSaid opening lines (None, Short s)
+    of_short : (s : Shorthand) → IsShortSaid opening s → IsSaidAct opening lines (None, Short s)
     of_short s said = record { actor = said.0; fit = said.1; names = tt; labelled = λ none. cc }
 
-    go : (first : First) → AllTell (IsSaid opening lines) (act_by counts labels first)
+    go : (first : First) → AllTell (IsSaidAct opening lines) (act_by counts labels first)
     go (OfEvent verb) = tell_more (IsEventSaid opening lines) _ (event_by counts labels verb) (of_event None) (event_said opening counts same lines labels are verb)
     go (OfShort verb) = tell_more (IsShortSaid opening) _ (short_by counts verb) of_short (short_said opening counts same verb)
     go (OfLabel name) = λ w verb is.
         tell_more (IsEventSaid opening lines) _ (event_by counts labels verb) (of_event (Some name)) (event_said opening counts same lines labels are verb)
 
 -- a line that is of the form says no more than may be played after lines that have its labels
-pub act_said : (opening : Opening) (counts : Counts) → AreCountsOf opening counts → (lines : List SchedLine) (labels : LineOf) → AreLabelsOf lines labels → (words : List (List ℕ)) (said : Option (List ℕ) × LineAct) → Spells (act_form counts labels) words said → IsSaid opening lines said
+pub act_said : (opening : Opening) (counts : Counts) → AreCountsOf opening counts → (lines : List SchedLine) (labels : LineOf) → AreLabelsOf lines labels → (words : List (List ℕ)) (said : Option (List ℕ) × LineAct) → Spells (act_form counts labels) words said → IsSaidAct opening lines said
 act_said opening counts same lines labels are words said spells =
-    all_tell (IsSaid opening lines) (act_form counts labels) words said (acts_said opening counts same lines labels are) spells
+    all_tell (IsSaidAct opening lines) (act_form counts labels) words said (acts_said opening counts same lines labels are) spells

@@ -40,7 +40,7 @@ use Rattle.schedule_lines.specs.declared.verbs.TopoVerb.TheVariants.{Ask as AskV
 use Rattle.schedule_lines.specs.declared.verbs.WhatVerb.{WhatVerb}
 use Rattle.schedule_lines.specs.declared.verbs.WhatVerb.TheVariants.{Clean as CleanAsk, Done as DoneAsk, Drain as DrainAsk, Fence as FenceAsk, Ready as ReadyAsk}
 use Rattle.schedule_words.specs.Labels.{LineOf}
-use Rattle.schedule_words.specs.Places.{any_host, any_replica, cell, host, lane, log2, next_replica, one_of, operation_number, reference, resize_kind, session, table_number, tablet_number, target, token, version}
+use Rattle.schedule_words.specs.Places.{any_host, any_replica, cell, host, lane, log2, next_replica, one_of, operation_number, reference, resize_kind, session, table_number, tablet_number, target_place, token, version}
 use Rattle.schedule_words.specs.Words.{header_word, label_of}
 use Rattle.schedule_words.specs.declared.counts.Counts.{Counts}
 use Rattle.text_grammar.specs.Judging.{if_so, text}
@@ -84,15 +84,15 @@ start =
 
 -- S STAGE
 unfoldable pub advance : Shape Command
-advance = Word session (λ s. Word target (λ to. End (Advance s to)))
+advance = Word session (λ s. Word target_place (λ to. End (Advance s to)))
 
 -- V
 unfoldable pub set_fence : Shape Command
 set_fence = Word version (λ v. End (SetFence v))
 
 -- H
-unfoldable pub member : Shape HostId
-member = Word any_host (λ h. End h)
+unfoldable pub host_named : Shape HostId
+host_named = Word any_host (λ h. End h)
 
 -- T split, merge or keep
 unfoldable pub resize : Shape Command
@@ -107,8 +107,8 @@ command_by CreateVerb = create
 command_by StartVerb = start
 command_by AdvanceVerb = advance
 command_by SetFenceVerb = set_fence
-command_by JoinVerb = Made member Join
-command_by LeaveVerb = Made member Leave
+command_by JoinVerb = Made host_named Join
+command_by LeaveVerb = Made host_named Leave
 command_by ResizeVerb = resize
 command_by FinalizeVerb = finalize
 
@@ -263,8 +263,8 @@ by_event labels word (Some verb) = Ok (OfEvent verb)
 by_event labels word None = by_short labels word (short_word word)
 
 -- a line of the header is out of its order here
-abbrev pub first_word : LineOf → List ℕ → Result First Fault
-first_word labels word =
+abbrev pub first_act_word : LineOf → List ℕ → Result First Fault
+first_act_word labels word =
     if is_some (header_word word) then Err (Refused BadHeader) else by_event labels word (event_word word)
 
 -- a label stands before an event alone
@@ -275,4 +275,4 @@ act_by counts labels (OfLabel name) = Made (event counts labels) (λ e. (Some na
 
 -- a line behind the header, with its label: its own label names no line that it can refer to
 unfoldable pub act_form : Counts → LineOf → Shape (Option (List ℕ) × LineAct)
-act_form counts labels = Word (Known (first_word labels)) (act_by counts labels)
+act_form counts labels = Word (Known (first_act_word labels)) (act_by counts labels)

@@ -10,17 +10,17 @@ use Rattle.text_grammar.specs.Shapes.{Either, Spells}
 use Rattle.text_grammar.specs.Readings.{◌>>=◌, reading}
 use Rattle.text_grammar.specs.Lines.{Line, is_comment, are_ascii, Makes, Leads}
 use Rattle.text_grammar.specs.Folds.{passed, told_or, at_line, line_reading}
-use Rattle.text_grammar.proofs.LineLaws.{Said as LineSaid, said, passed_or_told}
+use Rattle.text_grammar.proofs.LineLaws.{Said as GrammarSaid, said, passed_or_told}
 use Rattle.text_grammar.proofs.TellLaws.{all_tell}
 use Rattle.schedule_header.specs.Header.{Header, Said as HeaderSaid, Step, More, Opened, step_of}
 use Rattle.schedule_header.specs.Forms.{header_line}
 use Rattle.schedule_header.specs.Sound.{IsSoundStep}
 use Rattle.schedule_header.proofs.StepLemmas.{line_keeps, first_sound}
 use Rattle.schedule_lines.specs.Forms.{act_form}
-use Rattle.schedule_lines.specs.Said.{AreCountsOf, IsSaid}
+use Rattle.schedule_lines.specs.Said.{AreCountsOf, IsSaidAct}
 use Rattle.schedule_lines.proofs.SaidLemmas.{act_said}
 use Rattle.schedule_lines.proofs.FollowLemmas.{no_labels_of, labels_follow, line_follows}
-use Rattle.schedule_text.specs.Language.{Body, State, Nothing, InHeader, InBody, Said, SaidFormat, SaidHeader, SaidAct, counts_of, form_at, state_of, after_act, after_line, schedules}
+use Rattle.schedule_text.specs.Language.{Body, State, Nothing, InHeader, InBody, LineSaid, SaidFormat, SaidHeader, SaidAct, counts_of, form_at, state_behind, after_act, after_line, schedules}
 use Rattle.schedule_text.specs.Sound.{IsSoundBody, IsSoundState}
 use Rattle.schedule_text.specs.Code.{told_next}
 
@@ -30,7 +30,7 @@ if_first : (number : ℕ) (t : Bool) → (if_so t NoHeader SaidFormat >>= λ x. 
 if_first number true = refl
 if_first number false = refl
 
-made_header : (number : ℕ) (header : Header) (found : Result HeaderSaid Fault) → ((found >>= λ x. Ok (SaidHeader x)) >>= λ x. Ok (after_line number (InHeader header) x)) ≡ ((found >>= λ x. Ok (step_of header x)) >>= λ step. Ok (state_of step))
+made_header : (number : ℕ) (header : Header) (found : Result HeaderSaid Fault) → ((found >>= λ x. Ok (SaidHeader x)) >>= λ x. Ok (after_line number (InHeader header) x)) ≡ ((found >>= λ x. Ok (step_of header x)) >>= λ step. Ok (state_behind step))
 made_header number header (Ok x) = refl
 made_header number header (Err fault) = refl
 
@@ -69,14 +69,14 @@ later number (InBody body) sound = record {
   earlier = All-weaker (λ (line : SchedLine). line.line < number) (λ (line : SchedLine). line.line < number + 1) (λ line less. omega arith) body.lines sound.earlier;
 }
 
-no_lines : (number : ℕ) (step : Step) → IsSoundStep step → IsSoundState number (state_of step)
+no_lines : (number : ℕ) (step : Step) → IsSoundStep step → IsSoundState number (state_behind step)
 no_lines number (More header) sound = sound
 no_lines number (Opened opening) sound = record { opening = sound; labels = no_labels_of; follow = tt; earlier = All-nil (λ (line : SchedLine). line.line < number) }
 
 act_keeps : (number : ℕ) (body : Body) (words : Line) (x : Option (List ℕ) × LineAct) → 1 ≤ number → IsSoundBody number body → Spells (act_form (counts_of body.opening) body.labels) words x → IsSoundBody (number + 1) (after_act number body x)
 act_keeps number body words x counted sound spells =
     let same : AreCountsOf body.opening (counts_of body.opening) = record { hosts = refl; lanes = refl } in
-    let is : IsSaid body.opening body.lines x = act_said body.opening (counts_of body.opening) same body.lines body.labels sound.labels words x spells in
+    let is : IsSaidAct body.opening body.lines x = act_said body.opening (counts_of body.opening) same body.lines body.labels sound.labels words x spells in
     let line : SchedLine = record { line = number; act = x.1 } in
     record {
       opening = sound.opening;
@@ -85,15 +85,15 @@ act_keeps number body words x counted sound spells =
       earlier = All-push (λ (other : SchedLine). other.line < number + 1) body.lines line (All-weaker (λ (other : SchedLine). other.line < number) (λ (other : SchedLine). other.line < number + 1) (λ other less. omega arith) body.lines sound.earlier) (omega arith);
     }
 
-told_keeps : (number : ℕ) (state : State) (words : Line) (x : Said) → 1 ≤ number → IsSoundState number state → Spells (form_at state) words x → IsSoundState (number + 1) (after_line number state x)
+told_keeps : (number : ℕ) (state : State) (words : Line) (x : LineSaid) → 1 ≤ number → IsSoundState number state → Spells (form_at state) words x → IsSoundState (number + 1) (after_line number state x)
 told_keeps number Nothing words x counted sound spells = first_sound
 told_keeps number (InHeader header) words x counted sound (s, spells, e) =
-    subst (λ (y : Said). IsSoundState (number + 1) (after_line number (InHeader header) y)) (sym e)
+    subst (λ (y : LineSaid). IsSoundState (number + 1) (after_line number (InHeader header) y)) (sym e)
     (no_lines (number + 1) (step_of header s) (all_tell (λ y. IsSoundStep (step_of header y)) (header_line header) words s (line_keeps header sound) spells))
 told_keeps number (InBody body) words x counted sound (s, spells, e) =
-    subst (λ (y : Said). IsSoundState (number + 1) (after_line number (InBody body) y)) (sym e) (act_keeps number body words s counted sound spells)
+    subst (λ (y : LineSaid). IsSoundState (number + 1) (after_line number (InBody body) y)) (sym e) (act_keeps number body words s counted sound spells)
 
-either_keeps : (number : ℕ) (before next : State) (word : List ℕ) (words : Line) → 1 ≤ number → IsSoundState number before → (t : Bool) → Either t ((are_ascii (word ∷ words) ≡ true) × (next ≡ before)) ((x : Said) × Spells (form_at before) (word ∷ words) x × (next ≡ after_line number before x)) → IsSoundState (number + 1) next
+either_keeps : (number : ℕ) (before next : State) (word : List ℕ) (words : Line) → 1 ≤ number → IsSoundState number before → (t : Bool) → Either t ((are_ascii (word ∷ words) ≡ true) × (next ≡ before)) ((x : LineSaid) × Spells (form_at before) (word ∷ words) x × (next ≡ after_line number before x)) → IsSoundState (number + 1) next
 either_keeps number before next word words counted sound true p = subst (IsSoundState (number + 1)) (sym p.1) (later number before sound)
 either_keeps number before next word words counted sound false (x, spells, e) = subst (IsSoundState (number + 1)) (sym e) (told_keeps number before (word ∷ words) x counted sound spells)
 
@@ -102,7 +102,7 @@ makes_keeps number before next [] counted sound makes = subst (IsSoundState (num
 makes_keeps number before next (word ∷ words) counted sound makes = either_keeps number before next word words counted sound (is_comment word) makes
 
 -- so does a line that is read
-reads_keep : (number : ℕ) (before : State) (line : Line) → 1 ≤ number → IsSoundState number before → (found : Result State Fault) → LineSaid schedules number before line found → (next : State) → at_line number found ≡ Ok next → IsSoundState (number + 1) next
+reads_keep : (number : ℕ) (before : State) (line : Line) → 1 ≤ number → IsSoundState number before → (found : Result State Fault) → GrammarSaid schedules number before line found → (next : State) → at_line number found ≡ Ok next → IsSoundState (number + 1) next
 reads_keep number before line counted sound (Ok made) is next e =
     let same : made ≡ next = cc in subst (IsSoundState (number + 1)) same (makes_keeps number before made line counted sound is)
 reads_keep number before line counted sound (Err fault) is next e = absurd (cc)

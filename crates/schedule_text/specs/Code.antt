@@ -13,7 +13,7 @@ use Rattle.schedule_header.specs.Header.{no_header}
 use Rattle.schedule_header.specs.Forms.{is_first}
 use Rattle.schedule_header.specs.Code.{header_in, next_step}
 use Rattle.schedule_lines.specs.Forms.{act_form}
-use Rattle.schedule_text.specs.Language.{schedules, Body, State, Nothing, InHeader, InBody, counts_of, state_of, after_act}
+use Rattle.schedule_text.specs.Language.{schedules, Body, State, Nothing, InHeader, InBody, counts_of, state_behind, after_act}
 use Rattle.schedule_text.specs.Texts.{IsScheduleText, IsFaultAt}
 use Rattle.schedule_text.specs.declared.state.BodyState.{BodyState}
 use Rattle.schedule_text.specs.declared.state.State.{State as CodeState}
@@ -40,13 +40,13 @@ act_next number body words =
 
 abbrev pub told_next : ℕ → State → List (List ℕ) → Result State Fault
 told_next number Nothing words = first_next words
-told_next number (InHeader header) words = next_step header words >>= λ step. Ok (state_of step)
+told_next number (InHeader header) words = next_step header words >>= λ step. Ok (state_behind step)
 told_next number (InBody body) words = act_next number body words
 
 -- what the code has in the end
-abbrev pub finished : Result Schedule TextRule → Result Schedule Fault
-finished (Ok schedule) = Ok schedule
-finished (Err rule) = Err (RefusedIn rule)
+abbrev pub code_ended : Result Schedule TextRule → Result Schedule Fault
+code_ended (Ok schedule) = Ok schedule
+code_ended (Err rule) = Err (RefusedIn rule)
 
 -- what the line of a number makes
 abbrev pub line_at : ℕ → State → List (List ℕ) → Result State LineFault
@@ -55,15 +55,15 @@ line_at number state words = at_line number (line_reading schedules number state
 -- ---- what the code answers
 
 -- it fails as the reading does, unless memory was refused; a limit is named without its line
-abbrev pub FailsAs : {Y : Type 0} → ParseError → Result Y LineFault → Type 0
-FailsAs (Refused line rule) read = read ≡ Err (record { line = line; fault = RefusedIn rule })
-FailsAs (Limit name) read = (line : ℕ) × (read ≡ Err (record { line = line; fault = LimitIn name }))
-FailsAs NoMemory read = Unit {0}
+abbrev pub CodeFailsAs : {Y : Type 0} → ParseError → Result Y LineFault → Type 0
+CodeFailsAs (Refused line rule) read = read ≡ Err (record { line = line; fault = RefusedIn rule })
+CodeFailsAs (Limit name) read = (line : ℕ) × (read ≡ Err (record { line = line; fault = LimitIn name }))
+CodeFailsAs NoMemory read = Unit {0}
 
 -- it gives what is read, seen by a view
 abbrev pub TextGives : {X Y : Type 0} → (X → Y) → Result X ParseError → Result Y LineFault → Type 0
 TextGives view (Ok x) read = read ≡ Ok (view x)
-TextGives view (Err error) read = FailsAs error read
+TextGives view (Err error) read = CodeFailsAs error read
 
 -- it says what the text says, or names its first fault
 abbrev pub IsTold : List ℕ → Result Schedule ParseError → Type 0

@@ -29,25 +29,25 @@ pub data State : Type 0 where
   InBody : Body → State
 
 -- what a line says: the format, a line of the header, or what is played, with a label where it has one
-pub data Said : Type 0 where
-  SaidFormat : Said
-  SaidHeader : HeaderSaid → Said
-  SaidAct : Option (List ℕ) × LineAct → Said
+pub data LineSaid : Type 0 where
+  SaidFormat : LineSaid
+  SaidHeader : HeaderSaid → LineSaid
+  SaidAct : Option (List ℕ) × LineAct → LineSaid
 
 -- whom a line may name as the one that acts
 abbrev pub counts_of : Opening → Counts
 counts_of opening = record { hosts = opening.hosts; lanes = opening.lanes }
 
 -- what may stand next
-abbrev pub form_at : State → Shape Said
+abbrev pub form_at : State → Shape LineSaid
 form_at Nothing = Whole (λ words. if_so (is_first words) NoHeader SaidFormat)
 form_at (InHeader header) = Made (header_line header) SaidHeader
 form_at (InBody body) = Made (act_form (counts_of body.opening) body.labels) SaidAct
 
 -- the state behind a line of the header
-abbrev pub state_of : Step → State
-state_of (More header) = InHeader header
-state_of (Opened opening) = InBody (record { opening = opening; labels = no_labels; lines = [] })
+abbrev pub state_behind : Step → State
+state_behind (More header) = InHeader header
+state_behind (Opened opening) = InBody (record { opening = opening; labels = no_labels; lines = [] })
 
 -- behind a line of this number that is played
 abbrev pub after_act : ℕ → Body → Option (List ℕ) × LineAct → Body
@@ -57,9 +57,9 @@ after_act number body said =
       lines = body.lines ++ record { line = number; act = said.1 } ∷ [];
     }
 
-abbrev pub after_line : ℕ → State → Said → State
+abbrev pub after_line : ℕ → State → LineSaid → State
 after_line number Nothing said = InHeader no_header
-after_line number (InHeader header) (SaidHeader said) = state_of (step_of header said)
+after_line number (InHeader header) (SaidHeader said) = state_behind (step_of header said)
 after_line number (InBody body) (SaidAct said) = InBody (after_act number body said)
 after_line number state said = state
 
@@ -69,5 +69,5 @@ finish Nothing = Err (Refused NoHeader)
 finish (InHeader header) = Err (Refused NoGo)
 finish (InBody body) = Ok (record { opening = body.opening; lines = body.lines })
 
-abbrev pub schedules : Language State Said Schedule
+abbrev pub schedules : Language State LineSaid Schedule
 schedules = record { shape = form_at; after = after_line; finish = finish }

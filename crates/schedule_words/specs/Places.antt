@@ -39,8 +39,8 @@ abbrev pub one_of : {A : Type 0} → (List ℕ → Option A) → Place A
 one_of table = Known (λ word. given BadWord (table word))
 
 -- STAGE, or `none`
-abbrev pub target : Place (Option Stage)
-target = one_of target_word
+abbrev pub target_place : Place (Option Stage)
+target_place = one_of target_word
 
 -- split, merge or keep
 abbrev pub resize_kind : Place ResizeKind

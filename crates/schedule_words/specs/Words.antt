@@ -8,7 +8,7 @@ use Rattle.schedule_words.specs.declared.verbs.BodyKind.TheVariants.{Dead as Dea
 use Rattle.schedule_words.specs.declared.verbs.HeaderVerb.{HeaderVerb}
 use Rattle.schedule_words.specs.declared.verbs.HeaderVerb.TheVariants.{Go, Hosts, Lanes, Members, Shards, Table, Tablet, Tablets}
 use Rattle.stage_graph.specs.declared.stage.Stage.{Stage}
-use Rattle.stage_graph.specs.declared.stage.Stage.TheVariants.{AllowWriteBothReadOld, Cleanup, CleanupTarget, EndMigration, FallbackCleanup, RevertMigration, Streaming, UseNew, WriteBothReadNew, WriteBothReadOld}
+use Rattle.stage_graph.specs.Rules.{stages}
 use Rattle.stage_graph.specs.Words.{word as stage_word}
 use Rattle.text_grammar.specs.Readings.{parts_of}
 use Rattle.topo_state.specs.declared.data.ResizeKind.{ResizeKind}
@@ -43,20 +43,6 @@ body_word word = meaning ((codes "live", LiveWord) ∷ (codes "dead", DeadWord) 
 
 abbrev pub resize_word : List ℕ → Option ResizeKind
 resize_word word = meaning ((codes "split", Split) ∷ (codes "merge", Merge) ∷ (codes "keep", Keep) ∷ []) word
-
-abbrev pub stages : List Stage
-stages =
-    AllowWriteBothReadOld
-    ∷ WriteBothReadOld
-    ∷ Streaming
-    ∷ WriteBothReadNew
-    ∷ UseNew
-    ∷ Cleanup
-    ∷ EndMigration
-    ∷ FallbackCleanup
-    ∷ CleanupTarget
-    ∷ RevertMigration
-    ∷ []
 
 -- the first of these stages that has the word
 abbrev pub stage_among : List Stage → List ℕ → Option Stage

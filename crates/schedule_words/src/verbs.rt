@@ -2,8 +2,9 @@
 ghost use Rattle.std.specs.Prelude.{◌≡◌};
 ghost use Rattle.text_grammar.specs.Judging.{text};
 ghost use Rattle.text_grammar.specs.Readings.{read};
-ghost use Rattle.schedule_words.specs.Places.{resize_kind, target};
-ghost use Rattle.schedule_words.specs.Words.{body_word, header_word, resize_word, stage_among, stages, target_word};
+ghost use Rattle.schedule_words.specs.Places.{resize_kind, target_place};
+ghost use Rattle.schedule_words.specs.Words.{body_word, header_word, resize_word, stage_among, target_word};
+ghost use Rattle.stage_graph.specs.Rules.{stages};
 
 use stage_graph::Stage;
 use text_grammar::{Fault, TextRule};
@@ -101,7 +102,7 @@ fn stage_of(word: &[u8]) -> Option<Stage>
 
 /// Where a session goes: a stage, or nowhere for the word `none`. Any other word is at fault with `BadWord`.
 pub fn target(word: &[u8]) -> Result<Option<Stage>, Fault>
-    ensures { result ≡ read target word.now }
+    ensures { result ≡ read target_place word.now }
 {
     if word == b"none".as_slice() {
         return Ok(None);

@@ -3,7 +3,7 @@ ghost use Rattle.std.specs.Prelude.{◌≡◌, ◌≢◌, ◌+◌, ◌<◌, ℕ,
 ghost use Rattle.std.specs.List.{All};
 ghost use Rattle.stage_graph.specs.Table.{writes, reads, next_ok, extra, needed};
 ghost use Rattle.stage_graph.specs.Words.{word};
-ghost use Rattle.stage_graph.specs.Ways.{IsWay, after_start, after_fallback, rank};
+ghost use Rattle.stage_graph.specs.Ways.{IsWay, way_forward, after_fallback, way_rank};
 ghost use Rattle.stage_graph.specs.Rules.{reads_written, hands_over};
 ghost use Rattle.stage_graph.specs.declared.stage.Stage.{Stage};
 ghost use Rattle.stage_graph.specs.declared.stage.Stage.TheVariants.{AllowWriteBothReadOld, EndMigration, FallbackCleanup, RevertMigration};
@@ -12,7 +12,7 @@ ghost use Rattle.stage_graph.specs.declared.kind.Kind.TheVariants.{Read, Write};
 
 /// Each move goes up a rank.
 pub fn law_moves_rise()
-    ensures { (from to : Stage) → IsTrue (next_ok from (Some to)) → rank from < rank to }
+    ensures { (from to : Stage) → IsTrue (next_ok from (Some to)) → way_rank from < way_rank to }
 {}
 
 /// On a way through the table no stage comes back.
@@ -22,7 +22,7 @@ pub fn law_no_stage_comes_back()
 
 /// The way forward and the way back are ways.
 pub fn law_ways()
-    ensures forward { IsWay AllowWriteBothReadOld after_start }
+    ensures forward { IsWay AllowWriteBothReadOld way_forward }
     ensures back { IsWay FallbackCleanup after_fallback }
 {}
 

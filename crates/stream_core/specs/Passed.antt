@@ -15,8 +15,8 @@ is_upto (Some last) token = int_le token.value last.value
 abbrev pub has_passed : Pulling → Token → Bool
 has_passed pull token = pull.done || is_upto pull.after token
 
--- of the tokens of the range, a chunk covers those above its `after`: where more cells follow up to its last token, else
--- all of them
+-- of the tokens of the range, a chunk covers those above its `after`: where more cells follow up to its last token,
+-- else all of them
 abbrev pub covers : ChunkMsg → Token → Bool
 covers chunk token = is_above chunk.after token && (not chunk.more || is_upto (last_token None chunk.cells) token)
 
@@ -34,8 +34,8 @@ ChunkHasCells =
     → covers (served_chunk source ask) token ≡ true
     → stored_at (served_chunk source ask).cells token ≡ cell_at source ask.table token
 
--- where a chunk that a source sent for the pull's range lets the pull pass a token of the range, the chunk covers the token
--- and has the source's cell there
+-- where a chunk that a source sent for the pull's range lets the pull pass a token of the range, the chunk covers the
+-- token and has the source's cell there
 abbrev pub PassedIsCovered : Type 0
 PassedIsCovered =
     (source : Cells) (ask : ChunkAsk) (pull : Pulling) (token : Token)

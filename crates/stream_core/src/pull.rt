@@ -38,7 +38,15 @@ impl Model for Pull {
 
     ghost Value = { Pulling };
 
-    ghost view = { λ p. record { session = p.session; table = p.table; range = p.range; by = p.by; from = p.from; after = p.after; done = p.done } };
+    ghost view = { λ p. record {
+      session = p.session;
+      table = p.table;
+      range = p.range;
+      by = p.by;
+      from = p.from;
+      after = p.after;
+      done = p.done;
+    } };
 }
 
 impl Pull {
@@ -109,8 +117,8 @@ impl Pull {
         if self.done { None } else { Some(self.ask()) }
     }
 
-    /// What would become of a chunk: `Foreign` exactly where its session or `after` is not the pull's or the pull is done,
-    /// else `Done` exactly where it is the last one.
+    /// What would become of a chunk: `Foreign` exactly where its session or `after` is not the pull's or the pull is
+    /// done, else `Done` exactly where it is the last one.
     pub fn judge(&self, chunk: &ChunkMsg) -> Took
         ensures { result ≡ took_of self.now chunk.now }
     {
@@ -123,8 +131,8 @@ impl Pull {
         }
     }
 
-    /// Stores the cells of a chunk in the pull's table, and goes on behind them. A foreign chunk changes nothing. Takes no
-    /// memory.
+    /// Stores the cells of a chunk in the pull's table, and goes on behind them. A foreign chunk changes nothing.
+    /// Takes no memory.
     pub fn take_chunk<S: Store>(&mut self, store: &mut S, chunk: &ChunkMsg) -> Took
         requires { length chunk.now.cells ≤ S.spare store.old }
         ensures took { result ≡ took_of self.old chunk.now }

@@ -11,8 +11,8 @@ use std::alloc::Global;
 /// A chunk has at most so many cells.
 const MOST_CELLS: usize = 64;
 
-/// The chunk that is asked for: the first 64 cells of the range above `after`, and whether there are more. The store lends
-/// them by as many chunks of its own as it takes.
+/// The chunk that is asked for: the first 64 cells of the range above `after`, and whether there are more. The store
+/// lends them by as many chunks of its own as it takes.
 pub fn serve_chunk<S: Store>(alloc: Global, store: &S, ask: &ChunkAsk) -> Result<ChunkMsg, NoMemory>
     ensures { IfOk result (λ chunk. chunk ≡ served_chunk (S.cells store.now) ask.now) }
 {

@@ -9,7 +9,7 @@ use Rattle.base_ids.specs.declared.ids.Replica.{Replica}
 use Rattle.cell_merge.proofs.CellOrder.{greater-first, greater-second, not_below}
 use Rattle.cell_merge.specs.Cell.{IsNotBelow, greater_cell}
 use Rattle.cell_merge.specs.declared.cell.Cell.{Cell}
-use Rattle.cluster_history.specs.Held.{cleaned_move, covers, drops, held_cell, stored_cell}
+use Rattle.cluster_history.specs.Held.{cleaned_move, covers_key, drops, held_cell, stored_cell}
 use Rattle.cluster_history.specs.History.{History}
 use Rattle.cluster_history.specs.Topology.{accepted_command}
 use Rattle.cluster_history.specs.declared.data.Entry.{Entry}
@@ -49,7 +49,7 @@ cleans_nothing opening history host event outputs command e = refl
 
 pub command_drops : (opening : Opening) (history : History) (entry : Entry) (host : HostId) (key : Key) (command : Command) → accepted_command entry.event entry.outputs ≡ Some command → drops opening history entry host key ≡ false
 command_drops opening history entry host key command e =
-    ap (λ (move : Option Move). covers move key) (cleans_nothing opening history host entry.event entry.outputs command e)
+    ap (λ (move : Option Move). covers_key move key) (cleans_nothing opening history host entry.event entry.outputs command e)
 
 -- ---- lists
 

@@ -29,10 +29,20 @@ with_tablet tablets at tablet = record tablets { list = slice_set tablets.list a
 -- what a start, a stage, a finish and a revert make of a tablet
 abbrev pub started : Tablet → Replica → Replica → Session → Tablet
 started tablet leaving pending session =
-    record tablet { transition = Some (record { stage = AllowWriteBothReadOld; leaving = leaving; pending = pending; session = session }) }
+    record tablet {
+      transition = Some (record {
+        stage = AllowWriteBothReadOld;
+        leaving = leaving;
+        pending = pending;
+        session = session;
+      });
+    }
 
 abbrev pub staged : Tablet → Stage → Tablet
-staged tablet stage = record tablet { transition = option_map (λ (t : Transition). record t { stage = stage }) tablet.transition }
+staged tablet stage = record tablet {
+  transition = option_map (λ (t : Transition).
+      record t { stage = stage }) tablet.transition;
+}
 
 abbrev pub finished : Tablet → Tablet
 finished tablet =
@@ -68,7 +78,11 @@ least_apart list = option_map (λ n. 2 * n) (position is_apart (pairs list))
 
 -- the left one of each pair is kept
 abbrev pub merge_of : Tablets → Tablets
-merge_of tablets = record { log2 = tablets.log2 - 1; list = map (λ (pair : Tablet × Tablet). pair.0) (pairs tablets.list) }
+merge_of tablets = record {
+  log2 = tablets.log2 - 1;
+  list = map (λ (pair : Tablet × Tablet). pair.0)
+      (pairs tablets.list);
+}
 
 -- how a split ends
 abbrev pub SplitEnds : Tablets → Tablets → Result Unit SplitError → Type 0

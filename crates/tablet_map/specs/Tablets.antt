@@ -34,4 +34,5 @@ is_moving tablet = elim tablet.transition [ None ↦ false | Some transition ↦
 
 -- a tablet's transition has a session
 abbrev pub has_session : Session → Tablet → Bool
-has_session session tablet = elim tablet.transition [ None ↦ false | Some transition ↦ transition.session.0 == session.0 ]
+has_session session tablet =
+    elim tablet.transition [ None ↦ false | Some transition ↦ transition.session.0 == session.0 ]

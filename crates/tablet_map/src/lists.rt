@@ -75,7 +75,8 @@ fn is_same_set(a: &[Replica], b: &[Replica]) -> bool
 /// Whether the two tablets of a pair of neighbours have the same set of replicas.
 fn is_colocated(tablets: &[Tablet], pair: usize) -> bool
     requires { 2 * pair + 1 < length tablets.now }
-    ensures { result ≡ same_set (tablet_in tablets.now (2 * pair)).replicas (tablet_in tablets.now (2 * pair + 1)).replicas }
+    ensures { result ≡
+        same_set (tablet_in tablets.now (2 * pair)).replicas (tablet_in tablets.now (2 * pair + 1)).replicas }
 {
     let left = &tablets[2 * pair];
     let right = &tablets[2 * pair + 1];

@@ -131,7 +131,8 @@ impl TabletMap {
         requires within { tablet.0 < length self.old.list }
         requires rests { (tablet_in self.old.list tablet.0).transition ≡ None }
         requires moves { CanMove (tablet_in self.old.list tablet.0).replicas leaving pending }
-        ensures { self.new ≡ with_tablet self.old tablet.0 (started (tablet_in self.old.list tablet.0) leaving pending session) }
+        ensures { self.new ≡
+            with_tablet self.old tablet.0 (started (tablet_in self.old.list tablet.0) leaving pending session) }
     {
         self.tablets[tablet.0 as usize].start(leaving, pending, session);
     }

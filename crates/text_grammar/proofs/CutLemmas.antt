@@ -5,7 +5,7 @@ use Rattle.text_grammar.specs.Lines.{are_ascii}
 use Rattle.std.specs.Option.{option_map}
 use Rattle.std.proofs.lemmas.Grind.{common_steps}
 use Rattle.std.proofs.lemmas.Bool.Decides.{nat_tests}
-use Rattle.text_grammar.specs.Readings.{cut_at, onto_front, is_end, next_of}
+use Rattle.text_grammar.specs.Readings.{cut_at, onto_front, ends_line, next_of}
 use Rattle.text_grammar.specs.Cuts.{lines_of, onto_line, at_feed, without_return, at_space, onto_word, words_of, starts_word}
 
 -- what stands before and behind a place, as slices of it
@@ -83,7 +83,7 @@ unfolding words_by
 one_word_of [] starts some e = absurd (omega arith)
 one_word_of (b ∷ bytes) starts some e = words_cut b bytes starts ∙ ap (words_by (b ∷ bytes)) (sym e)
 
-some_words : (b : ℕ) (t : Bool) (words : List (List ℕ)) → is_end (onto_word b t words) ≡ false
+some_words : (b : ℕ) (t : Bool) (words : List (List ℕ)) → ends_line (onto_word b t words) ≡ false
 some_words b true words = refl
 some_words b false [] = refl
 some_words b false (word ∷ words) = refl
@@ -91,7 +91,7 @@ some_words b false (word ∷ words) = refl
 some_length : (b : ℕ) (bytes : List ℕ) → (length (b ∷ bytes) == 0) ≡ false
 some_length b bytes = grind (arith, nat_tests)
 
-pub no_words : (rest : List ℕ) → starts_word rest → is_end (words_of rest) ≡ (length rest == 0)
+pub no_words : (rest : List ℕ) → starts_word rest → ends_line (words_of rest) ≡ (length rest == 0)
 no_words [] starts = refl
 no_words (b ∷ bytes) starts = rw starts (some_words b (at_space bytes) (words_of bytes) ∙ sym (some_length b bytes))
 

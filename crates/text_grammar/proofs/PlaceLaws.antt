@@ -4,7 +4,7 @@ use Rattle.text_grammar.specs.declared.faults.TextRule.{TextRule}
 use Rattle.text_grammar.specs.declared.faults.Fault.{Fault}
 use Rattle.text_grammar.specs.declared.faults.Fault.TheVariants.{Refused}
 use Rattle.text_grammar.specs.Words.{AreDigits, AreHex, IsCut}
-use Rattle.text_grammar.specs.Shapes.{Place, Digits, Hex, Known, Judged, Cut, ByFirst, Behind, begins, tail, Either, Is, At}
+use Rattle.text_grammar.specs.Shapes.{Place, Digits, Hex, Known, Judged, Cut, ByFirst, Behind, begins_with, tail, Either, Is, At}
 use Rattle.text_grammar.specs.Readings.{◌>>=◌, given, unsigned_of, hex_bytes_of, parts_of, read}
 use Rattle.text_grammar.proofs.Numerals.{number_told, number_read, hex_told, hex_read, cut_told, cut_read}
 
@@ -41,13 +41,13 @@ cut_or : {A B : Type 0} (s : ℕ) (rule : TextRule) (first : Place A) (last : A 
 cut_or s rule first last word on_first on_last (Some cut) e = parts_told s rule first last word cut.0 cut.1 (cut_told s word cut e) (λ a. on_last a cut.1) (read first cut.0) (on_first cut.0)
 cut_or s rule first last word on_first on_last None e = inl (refl, λ front back is. cc (cut_read s word front back is))
 
-first_told : {A : Type 0} (test : ℕ → Bool) (one other : Place A) (word : List ℕ) → (t : Bool) → begins test word ≡ t → (found : Result A Fault) → Either t (Told one word found) (Told other word found) → Told (ByFirst test one other) word found
+first_told : {A : Type 0} (test : ℕ → Bool) (one other : Place A) (word : List ℕ) → (t : Bool) → begins_with test word ≡ t → (found : Result A Fault) → Either t (Told one word found) (Told other word found) → Told (ByFirst test one other) word found
 first_told test one other word true e (Ok a) told = subst (λ (t : Bool). Either t (Is one word a) (Is other word a)) (sym e) told
 first_told test one other word false e (Ok a) told = subst (λ (t : Bool). Either t (Is one word a) (Is other word a)) (sym e) told
 first_told test one other word true e (Err r) told = subst (λ (t : Bool). Either t (At one word r) (At other word r)) (sym e) told
 first_told test one other word false e (Err r) told = subst (λ (t : Bool). Either t (At one word r) (At other word r)) (sym e) told
 
-behind_told : {A : Type 0} (byte : ℕ) (one other : Place A) (word : List ℕ) → (t : Bool) → begins (λ b. b == byte) word ≡ t → (found : Result A Fault) → Either t (Told one (tail word) found) (Told other word found) → Told (Behind byte one other) word found
+behind_told : {A : Type 0} (byte : ℕ) (one other : Place A) (word : List ℕ) → (t : Bool) → begins_with (λ b. b == byte) word ≡ t → (found : Result A Fault) → Either t (Told one (tail word) found) (Told other word found) → Told (Behind byte one other) word found
 behind_told byte one other word true e (Ok a) told = subst (λ (t : Bool). Either t (Is one (tail word) a) (Is other word a)) (sym e) told
 behind_told byte one other word false e (Ok a) told = subst (λ (t : Bool). Either t (Is one (tail word) a) (Is other word a)) (sym e) told
 behind_told byte one other word true e (Err r) told = subst (λ (t : Bool). Either t (At one (tail word) r) (At other word r)) (sym e) told
@@ -65,12 +65,12 @@ told {A} (Known table) word =
 told (Judged place judge) word = judged_told place judge word (read place word) (told place word)
 told (Cut s rule first last) word = cut_or s rule first last word (λ w. told first w) (λ a w. told (last a) w) (parts_of s word) refl
 told {A} (ByFirst test one other) word =
-    elim (begins test word) as (λ (t : Bool). begins test word ≡ t → Told (ByFirst test one other) word (cond t (read one word) (read other word))) [
+    elim (begins_with test word) as (λ (t : Bool). begins_with test word ≡ t → Told (ByFirst test one other) word (cond t (read one word) (read other word))) [
       | true ↦ λ e. first_told test one other word true e (read one word) (told one word)
       | false ↦ λ e. first_told test one other word false e (read other word) (told other word)
     ] refl
 told {A} (Behind byte one other) word =
-    elim (begins (λ b. b == byte) word) as (λ (t : Bool). begins (λ b. b == byte) word ≡ t → Told (Behind byte one other) word (cond t (read one (tail word)) (read other word))) [
+    elim (begins_with (λ b. b == byte) word) as (λ (t : Bool). begins_with (λ b. b == byte) word ≡ t → Told (Behind byte one other) word (cond t (read one (tail word)) (read other word))) [
       | true ↦ λ e. behind_told byte one other word true e (read one (tail word)) (told one (tail word))
       | false ↦ λ e. behind_told byte one other word false e (read other word) (told other word)
     ] refl
@@ -89,8 +89,8 @@ reads (Cut s rule first last) word b is =
     ap (λ o. given rule o >>= λ cut. read first cut.0 >>= λ a. read (last a) cut.1) (cut_read s word is.0 is.1 is.3)
     ∙ ap (λ r. r >>= λ a. read (last a) is.1) (reads first is.0 is.2 is.4)
     ∙ reads (last is.2) is.1 b is.5
-reads (ByFirst test one other) word a is = either_read (Ok a) (read one word) (read other word) (Is one word a) (Is other word a) (begins test word) (λ h. reads one word a h) (λ h. reads other word a h) is
-reads (Behind byte one other) word a is = either_read (Ok a) (read one (tail word)) (read other word) (Is one (tail word) a) (Is other word a) (begins (λ b. b == byte) word) (λ h. reads one (tail word) a h) (λ h. reads other word a h) is
+reads (ByFirst test one other) word a is = either_read (Ok a) (read one word) (read other word) (Is one word a) (Is other word a) (begins_with test word) (λ h. reads one word a h) (λ h. reads other word a h) is
+reads (Behind byte one other) word a is = either_read (Ok a) (read one (tail word)) (read other word) (Is one (tail word) a) (Is other word a) (begins_with (λ b. b == byte) word) (λ h. reads one (tail word) a h) (λ h. reads other word a h) is
 
 not_digits : (rule : TextRule) (word : List ℕ) → ((n : ℕ) → AreDigits word n → ⊥) → (found : Option ℕ) → unsigned_of word ≡ found → given rule found ≡ Err (Refused rule)
 not_digits rule word none (Some n) e = absurd (none n (number_told word n e))
@@ -119,5 +119,5 @@ faults (Cut s rule first last) word r (inr (front, back, cut, inr at)) =
     ap (λ o. given rule o >>= λ c. read first c.0 >>= λ a. read (last a) c.1) (cut_read s word front back cut)
     ∙ ap (λ x. x >>= λ a. read (last a) back) (reads first front at.0 at.1)
     ∙ faults (last at.0) back r at.2
-faults {A} (ByFirst test one other) word r at = either_read (Err r) (read one word) (read other word) (At one word r) (At other word r) (begins test word) (λ h. faults one word r h) (λ h. faults other word r h) at
-faults {A} (Behind byte one other) word r at = either_read (Err r) (read one (tail word)) (read other word) (At one (tail word) r) (At other word r) (begins (λ b. b == byte) word) (λ h. faults one (tail word) r h) (λ h. faults other word r h) at
+faults {A} (ByFirst test one other) word r at = either_read (Err r) (read one word) (read other word) (At one word r) (At other word r) (begins_with test word) (λ h. faults one word r h) (λ h. faults other word r h) at
+faults {A} (Behind byte one other) word r at = either_read (Err r) (read one (tail word)) (read other word) (At one (tail word) r) (At other word r) (begins_with (λ b. b == byte) word) (λ h. faults one (tail word) r h) (λ h. faults other word r h) at

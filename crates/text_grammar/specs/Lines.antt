@@ -3,7 +3,7 @@ use Rattle.std.specs.Prelude.{◌≡◌, ℕ, ◌+◌, ◌==◌, ◌⊎◌, nat_
 use Rattle.std.specs.List.{list_all}
 use Rattle.text_grammar.specs.declared.faults.Fault.{Fault}
 use Rattle.text_grammar.specs.Rules.{bad_word}
-use Rattle.text_grammar.specs.Shapes.{Shape, Either, begins, Spells, Fails}
+use Rattle.text_grammar.specs.Shapes.{Shape, Either, begins_with, Spells, Fails}
 
 -- a line is its words
 abbrev pub Line : Type 0
@@ -11,7 +11,7 @@ Line = List (List ℕ)
 
 -- the line begins with a byte 35, `#`
 abbrev pub is_comment : List ℕ → Bool
-is_comment word = begins (λ b. b == 35) word
+is_comment word = begins_with (λ b. b == 35) word
 
 abbrev pub are_ascii : Line → Bool
 are_ascii words = list_all (λ word. list_all (λ b. nat_lt b 128) word) words

@@ -4,7 +4,7 @@ use Rattle.text_grammar.specs.declared.faults.TextRule.{TextRule}
 use Rattle.text_grammar.specs.declared.faults.Fault.{Fault}
 use Rattle.text_grammar.specs.Rules.{bad_word}
 use Rattle.text_grammar.specs.declared.faults.Fault.TheVariants.{Refused}
-use Rattle.text_grammar.specs.Shapes.{Place, Digits, Hex, Known, Judged, Cut, ByFirst, Behind, begins, tail, Shape, End, Word, EndOr, Each, Made, Whole}
+use Rattle.text_grammar.specs.Shapes.{Place, Digits, Hex, Known, Judged, Cut, ByFirst, Behind, begins_with, tail, Shape, End, Word, EndOr, Each, Made, Whole}
 
 -- one step after another, up to the first fault
 infixl 10 ◌>>=◌
@@ -77,8 +77,8 @@ read (Known table) word = table word
 read (Judged place judge) word = read place word >>= judge
 read (Cut separator rule first last) word =
     given rule (parts_of separator word) >>= λ cut. read first cut.0 >>= λ a. read (last a) cut.1
-read (ByFirst test one other) word = if begins test word then read one word else read other word
-read (Behind byte one other) word = if begins (λ b. b == byte) word then read one (tail word) else read other word
+read (ByFirst test one other) word = if begins_with test word then read one word else read other word
+read (Behind byte one other) word = if begins_with (λ b. b == byte) word then read one (tail word) else read other word
 
 -- the first word, and the others
 abbrev pub next_of : List (List ℕ) → Result (List ℕ × List (List ℕ)) Fault
@@ -90,9 +90,9 @@ abbrev pub no_more : List (List ℕ) → Result (Unit {0}) Fault
 no_more [] = Ok tt
 no_more (word ∷ words) = Err bad_word
 
-abbrev pub is_end : List (List ℕ) → Bool
-is_end [] = true
-is_end (word ∷ words) = false
+abbrev pub ends_line : List (List ℕ) → Bool
+ends_line [] = true
+ends_line (word ∷ words) = false
 
 -- what the words tell, one by one
 abbrev pub read_each : {B : Type 0} → (List B → Place B) → List B → List (List ℕ) → Result (List B) Fault
@@ -104,8 +104,8 @@ read_each place earlier (word ∷ words) =
 abbrev pub reading : {A : Type 0} → Shape A → List (List ℕ) → Result A Fault
 reading (End x) words = no_more words >>= λ _. Ok x
 reading (Word place more) words = next_of words >>= λ next. read place next.0 >>= λ b. reading (more b) next.1
-reading (EndOr x more) words = if is_end words then Ok x else reading more words
+reading (EndOr x more) words = if ends_line words then Ok x else reading more words
 reading (Each place made) words =
-    if is_end words then Err bad_word else read_each place [] words >>= λ all. Ok (made all)
+    if ends_line words then Err bad_word else read_each place [] words >>= λ all. Ok (made all)
 reading (Made shape made) words = reading shape words >>= λ b. Ok (made b)
 reading (Whole table) words = table words

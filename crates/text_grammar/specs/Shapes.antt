@@ -26,9 +26,9 @@ pub data Place : Type 0 → Type 1 where
   Behind : {A : Type 0} → ℕ → Place A → Place A → Place A
 
 -- the word begins with such a byte
-abbrev pub begins : (ℕ → Bool) → List ℕ → Bool
-begins test [] = false
-begins test (b ∷ bytes) = test b
+abbrev pub begins_with : (ℕ → Bool) → List ℕ → Bool
+begins_with test [] = false
+begins_with test (b ∷ bytes) = test b
 
 -- without its first byte
 abbrev pub tail : List ℕ → List ℕ
@@ -48,8 +48,8 @@ Is (Known table) word a = table word ≡ Ok a
 Is (Judged {A = A} place judge) word b = (a : A) × Is place word a × (judge a ≡ Ok b)
 Is (Cut {A = A} separator rule first last) word b =
     (front back : List ℕ) × (a : A) × IsCut separator word front back × Is first front a × Is (last a) back b
-Is (ByFirst test one other) word a = Either (begins test word) (Is one word a) (Is other word a)
-Is (Behind byte one other) word a = Either (begins (λ b. b == byte) word) (Is one (tail word) a) (Is other word a)
+Is (ByFirst test one other) word a = Either (begins_with test word) (Is one word a) (Is other word a)
+Is (Behind byte one other) word a = Either (begins_with (λ b. b == byte) word) (Is one (tail word) a) (Is other word a)
 
 -- the word is at fault at the place, with this fault
 abbrev pub At : {A : Type 0} → Place A → List ℕ → Fault → Type 0
@@ -61,8 +61,8 @@ At (Cut {A = A} separator rule first last) word r =
     ((r ≡ Refused rule) × ((front back : List ℕ) → IsCut separator word front back → ⊥))
     ⊎ ((front back : List ℕ) × IsCut separator word front back
     × (At first front r ⊎ ((a : A) × Is first front a × At (last a) back r)))
-At (ByFirst test one other) word r = Either (begins test word) (At one word r) (At other word r)
-At (Behind byte one other) word r = Either (begins (λ b. b == byte) word) (At one (tail word) r) (At other word r)
+At (ByFirst test one other) word r = Either (begins_with test word) (At one word r) (At other word r)
+At (Behind byte one other) word r = Either (begins_with (λ b. b == byte) word) (At one (tail word) r) (At other word r)
 
 -- ---- lines
 

@@ -3,7 +3,7 @@ ghost use Rattle.std.specs.Prelude.{◌≡◌, ◌==◌, ◌<◌, ◌∷◌, len
 ghost use Rattle.std.specs.List.{position};
 ghost use Rattle.std.specs.Option.{option_map};
 ghost use Rattle.text_grammar.specs.Cuts.{words_of, starts_word, seen_word, seen_parts};
-ghost use Rattle.text_grammar.specs.Readings.{next_of, no_more, is_end, cut_at, parts_of, given};
+ghost use Rattle.text_grammar.specs.Readings.{next_of, no_more, ends_line, cut_at, parts_of, given};
 
 use crate::faults::{Fault, TextRule};
 
@@ -67,7 +67,7 @@ pub fn next_word(line: &[u8]) -> Result<(&[u8], &[u8]), Fault>
 
 /// Whether no word is left.
 pub fn is_end(line: &[u8]) -> bool
-    ensures { result ≡ is_end (words_of line.now) }
+    ensures { result ≡ ends_line (words_of line.now) }
 {
     without_spaces(line).is_empty()
 }

@@ -15,7 +15,8 @@ pub fn law_in_one_tablet()
 
 /// A token lies from the first to the last place of a tablet exactly where that tablet is its tablet.
 pub fn law_tablet_and_range()
-    ensures { (log2 tablet : ℕ) (token : Token) → log2 ≤ 10 → tablet < 2 ^ log2 → IsBetween log2 tablet token.value ↔ (tablet_at log2 token.value ≡ tablet) }
+    ensures { (log2 tablet : ℕ) (token : Token) → log2 ≤ 10 → tablet < 2 ^ log2 →
+        IsBetween log2 tablet token.value ↔ (tablet_at log2 token.value ≡ tablet) }
 {}
 
 /// The places of a tablet's two children follow one another and together are its places.
@@ -25,5 +26,6 @@ pub fn law_children()
 
 /// With twice as many tablets, a token's tablet is a child of the one that it had.
 pub fn law_parent()
-    ensures { (log2 : ℕ) (token : Token) → log2 < 10 → tablet_at (log2 + 1) token.value / 2 ≡ tablet_at log2 token.value }
+    ensures { (log2 : ℕ) (token : Token) → log2 < 10 →
+        tablet_at (log2 + 1) token.value / 2 ≡ tablet_at log2 token.value }
 {}

@@ -27,13 +27,13 @@ use Rattle.topo_state.specs.Tables.{table_in}
 use Rattle.migrate_core.specs.declared.next.Next.{Next}
 use Rattle.migrate_core.specs.declared.next.Next.TheVariants.{Barrier, Ready, Propose, Nothing}
 use Rattle.migrate_core.specs.Plan.{awaited_or, awaited_pull, awaited_cleanup, awaited_barrier, unless_told, plan_next}
-use Rattle.migrate_core.specs.Transitions.{transition_of, target, streamed_at, cleaned_at, streamed_host, cleaned_host}
+use Rattle.migrate_core.specs.Transitions.{transition_of, target, streamed_at, cleaned_at, streamed_host, cleaned_host_in}
 use Rattle.migrate_core.proofs.PlanLemmas.{planned, awaited_none, barrier_passed}
 use Rattle.resize_core.specs.Plan.{hosts_of, replica_hosts, awaited_ready, next_for_decision, next_for_table, plan_resize}
-use Rattle.topo_coord.specs.Rules.{first_broken, propose_rule, lacks_evidence, lacks_done, lacks_cleaned, lacks_ready, lacks_ready_in, is_ready_tablet, splits_by, is_split}
+use Rattle.topo_coord.specs.Rules.{first_lacking, proposal_rule, awaits_evidence, awaits_done, awaits_cleaned, awaits_ready, lacks_ready_in, is_ready_tablet, is_split_numbered, is_a_split}
 
 -- no test breaks its rule
-none_broken : (a b c d : Bool) → a ≡ false → b ≡ false → c ≡ false → d ≡ false → first_broken ((a, NoEvidence) ∷ (b, NoDone) ∷ (c, NoCleaned) ∷ (d, NoReady) ∷ []) ≡ None
+none_broken : (a b c d : Bool) → a ≡ false → b ≡ false → c ≡ false → d ≡ false → first_lacking ((a, NoEvidence) ∷ (b, NoDone) ∷ (c, NoCleaned) ∷ (d, NoReady) ∷ []) ≡ None
 none_broken a b c d ea eb ec ed = rw (ea, eb, ec, ed) refl
 
 and_false : (b : Bool) → (b && false) ≡ false
@@ -46,10 +46,10 @@ told_of false host e = cc
 
 -- ---- moves
 
-done_there : (state : Topology) (facts : List Told) (session : Session) (back : Bool) (t : Transition) → awaited_pull facts session back t ≡ None → lacks_done state facts (Advance session (target t.stage back)) ≡ false
+done_there : (state : Topology) (facts : List Told) (session : Session) (back : Bool) (t : Transition) → awaited_pull facts session back t ≡ None → awaits_done state facts (Advance session (target t.stage back)) ≡ false
 done_there state facts session back t pulled = by t.stage back pulled
   where
-    by : (stage : Stage) (way_back : Bool) → awaited_pull facts session way_back (record t { stage = stage }) ≡ None → lacks_done state facts (Advance session (target stage way_back)) ≡ false
+    by : (stage : Stage) (way_back : Bool) → awaited_pull facts session way_back (record t { stage = stage }) ≡ None → awaits_done state facts (Advance session (target stage way_back)) ≡ false
     by AllowWriteBothReadOld true e = refl
     by AllowWriteBothReadOld false e = refl
     by WriteBothReadOld true e = refl
@@ -67,20 +67,20 @@ done_there state facts session back t pulled = by t.stage back pulled
     by CleanupTarget way_back e = refl
     by RevertMigration way_back e = refl
 
-cleaned_there : (state : Topology) (facts : List Told) (session : Session) (to : Option Stage) (t : Transition) → transition_of state session ≡ Some t → awaited_cleanup facts session t ≡ None → lacks_cleaned state facts (Advance session to) ≡ false
+cleaned_there : (state : Topology) (facts : List Told) (session : Session) (to : Option Stage) (t : Transition) → transition_of state session ≡ Some t → awaited_cleanup facts session t ≡ None → awaits_cleaned state facts (Advance session to) ≡ false
 cleaned_there state facts session to t found cleaned =
-    ap (λ o. is_some (cleaned_host o) && not (is_told facts (CleanOf session))) found ∙ by (is_told facts (CleanOf session)) (cleaned_at t.stage t) cleaned
+    ap (λ o. is_some (cleaned_host_in o) && not (is_told facts (CleanOf session))) found ∙ by (is_told facts (CleanOf session)) (cleaned_at t.stage t) cleaned
   where
     by : (told : Bool) (host : Option HostId) → unless_told told host ≡ None → (is_some host && not told) ≡ false
     by true host e = and_false (is_some host)
     by false None e = refl
     by false (Some h) e = cc
 
-pub move_allowed : (state : Topology) (facts : List Told) (session : Session) (back : Bool) (command : Command) → plan_next state facts session back ≡ Propose command → propose_rule state facts command ≡ None
+pub move_allowed : (state : Topology) (facts : List Told) (session : Session) (back : Bool) (command : Command) → plan_next state facts session back ≡ Propose command → proposal_rule state facts command ≡ None
 move_allowed state facts session back command plan =
     let p = planned state facts session back command plan in
     let to : Option Stage = target p.transition.stage back in
-    ap (propose_rule state facts) p.command_is ∙ none_broken (lacks_evidence state facts (Advance session to)) (lacks_done state facts (Advance session to)) (lacks_cleaned state facts (Advance session to)) (lacks_ready state facts (Advance session to))
+    ap (proposal_rule state facts) p.command_is ∙ none_broken (awaits_evidence state facts (Advance session to)) (awaits_done state facts (Advance session to)) (awaits_cleaned state facts (Advance session to)) (awaits_ready state facts (Advance session to))
     (ap not (barrier_passed facts state p.passed)) (done_there state facts session back p.transition p.pulled) (cleaned_there state facts session to p.transition p.found p.cleaned) refl
 
 -- ---- resizes
@@ -92,9 +92,9 @@ ready_tablets facts seq (tablet ∷ rest) =
 
 ready_there : (facts : List Told) (seq : Session) (table : Table) (decision : Decision) → table.resize ≡ Some decision → awaited_ready facts decision.kind seq table.map.list ≡ None → lacks_ready_in facts seq (Some table) ≡ false
 ready_there facts seq table decision decided ready =
-    ap (λ d. splits_by seq d && not (list_all (is_ready_tablet facts seq) table.map.list)) decided ∙ by decision.kind ready
+    ap (λ d. is_split_numbered seq d && not (list_all (is_ready_tablet facts seq) table.map.list)) decided ∙ by decision.kind ready
   where
-    by : (kind : ResizeKind) → awaited_ready facts kind seq table.map.list ≡ None → (same_session decision.seq seq && is_split kind && not (list_all (is_ready_tablet facts seq) table.map.list)) ≡ false
+    by : (kind : ResizeKind) → awaited_ready facts kind seq table.map.list ≡ None → (same_session decision.seq seq && is_a_split kind && not (list_all (is_ready_tablet facts seq) table.map.list)) ≡ false
     by Split e =
         let all : list_all (is_ready_tablet facts seq) table.map.list ≡ true = sym (ready_tablets facts seq table.map.list) ∙ sym (least_without-none facts (ReadyFor seq) (replica_hosts table.map.list)) ∙ ap is_none e in
         ap (λ b. same_session decision.seq seq && true && not b) all ∙ and_false (same_session decision.seq seq && true)
@@ -137,8 +137,8 @@ decided state facts id seq command plan = by (table_in state.tables id) refl pla
     by None found e = cc
     by (Some table) found e = on_table table found table.resize refl e
 
-pub resize_allowed : (state : Topology) (facts : List Told) (id : TableId) (seq : Session) (command : Command) → plan_resize state facts id seq ≡ Propose command → propose_rule state facts command ≡ None
+pub resize_allowed : (state : Topology) (facts : List Told) (id : TableId) (seq : Session) (command : Command) → plan_resize state facts id seq ≡ Propose command → proposal_rule state facts command ≡ None
 resize_allowed state facts id seq command plan =
     let p = decided state facts id seq command plan in
-    ap (propose_rule state facts) p.command_is ∙ none_broken (lacks_evidence state facts (FinalizeResize id seq)) (lacks_done state facts (FinalizeResize id seq)) (lacks_cleaned state facts (FinalizeResize id seq)) (lacks_ready state facts (FinalizeResize id seq))
+    ap (proposal_rule state facts) p.command_is ∙ none_broken (awaits_evidence state facts (FinalizeResize id seq)) (awaits_done state facts (FinalizeResize id seq)) (awaits_cleaned state facts (FinalizeResize id seq)) (awaits_ready state facts (FinalizeResize id seq))
     (ap not (barrier_passed facts state p.passed)) refl refl p.ready

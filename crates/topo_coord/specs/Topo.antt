@@ -9,7 +9,7 @@ use Rattle.topo_coord.specs.declared.data.TopoInput.{TopoInput}
 use Rattle.topo_coord.specs.declared.data.TopoInput.TheVariants.{Look, Ask, Hear, HearNotMine, Propose}
 use Rattle.topo_coord.specs.declared.data.TopoOut.{TopoOut}
 use Rattle.topo_coord.specs.declared.data.TopoOut.TheVariants.{Nothing, Ask as Asks, Propose as Proposes}
-use Rattle.topo_coord.specs.Rules.{propose_rule}
+use Rattle.topo_coord.specs.Rules.{proposal_rule}
 
 -- The host it runs on, the state before the first command, how many commands the log had when it last looked, the
 -- state that it saw then, and the facts that it has heard.
@@ -33,7 +33,7 @@ topo_rule topo (Look len state) = None
 topo_rule topo (Ask to what) = None
 topo_rule topo (Hear fact) = None
 topo_rule topo HearNotMine = None
-topo_rule topo (Propose command) = propose_rule topo.state topo.facts command
+topo_rule topo (Propose command) = proposal_rule topo.state topo.facts command
 
 -- what it makes of the coordinator
 abbrev pub topo_after : TopoView → TopoInput → TopoView

@@ -1,5 +1,5 @@
 ghost use Rattle.std.specs.Prelude.{◌≡◌, ◌≤◌, None, Some, IfOk, MatchResult};
-ghost use Rattle.topo_coord.specs.Rules.{propose_rule};
+ghost use Rattle.topo_coord.specs.Rules.{proposal_rule};
 ghost use Rattle.topo_coord.specs.Topo.{topo_first, topo_restarted, topo_rule, topo_after, topo_out, IsReady};
 
 use crate::data::{TopoInput, TopoOut};
@@ -40,7 +40,16 @@ impl Model for TopoCore {
 
     ghost Value = { TopoHolding };
 
-    ghost view = { λ t. record { core = record { host = t.host; opening = t.opening; look = t.look; state = unwrap_or t.seen t.opening; facts = t.evidence.facts }; room = t.evidence.spare } };
+    ghost view = { λ t. record {
+      core = record {
+        host = t.host;
+        opening = t.opening;
+        look = t.look;
+        state = unwrap_or t.seen t.opening;
+        facts = t.evidence.facts;
+      };
+      room = t.evidence.spare;
+    } };
 }
 
 impl TopoCore {
@@ -83,7 +92,8 @@ impl TopoCore {
 
     /// Whether the input may happen. The error is the first rule that it breaks: only a proposal has any.
     pub fn check(&self, input: &TopoInput) -> Result<(), EventRule>
-        ensures { MatchResult result (λ _. topo_rule self.now.core input.now ≡ None) (λ broken. topo_rule self.now.core input.now ≡ Some broken) }
+        ensures { MatchResult result (λ _. topo_rule self.now.core input.now ≡ None)
+            (λ broken. topo_rule self.now.core input.now ≡ Some broken) }
     {
         match input {
             TopoInput::Propose(command) => self.check_command(command),
@@ -96,7 +106,8 @@ impl TopoCore {
 
     /// Whether the command may be proposed. The error is the first rule that this breaks.
     pub fn check_command(&self, command: &Command) -> Result<(), EventRule>
-        ensures { MatchResult result (λ _. propose_rule self.now.core.state self.now.core.facts command.now ≡ None) (λ broken. propose_rule self.now.core.state self.now.core.facts command.now ≡ Some broken) }
+        ensures { MatchResult result (λ _. proposal_rule self.now.core.state self.now.core.facts command.now ≡ None)
+            (λ broken. proposal_rule self.now.core.state self.now.core.facts command.now ≡ Some broken) }
     {
         match propose_rule(self.state(), &self.evidence, command) {
             None => Ok(()),

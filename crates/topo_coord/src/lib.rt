@@ -1,5 +1,5 @@
-//! The part of a topology coordinator in each event: what it sees of the log, what it asks of hosts and hears from them,
-//! and which commands it may propose.
+//! The part of a topology coordinator in each event: what it sees of the log, what it asks of hosts and hears from
+//! them, and which commands it may propose.
 #![tactic(auto)]
 
 mod coordinator;

@@ -1,8 +1,8 @@
 //! The rules of a proposal.
 ghost use Rattle.std.specs.Prelude.{◌≡◌, is_some};
 ghost use Rattle.std.specs.List.{list_all};
-ghost use Rattle.migrate_core.specs.Transitions.{transition_of, cleaned_host, streamed_host};
-ghost use Rattle.topo_coord.specs.Rules.{lacks_evidence, lacks_done, lacks_cleaned, lacks_ready, splits_by, is_ready_tablet, propose_rule};
+ghost use Rattle.migrate_core.specs.Transitions.{transition_of, cleaned_host_in, streamed_host};
+ghost use Rattle.topo_coord.specs.Rules.{awaits_evidence, awaits_done, awaits_cleaned, awaits_ready, is_split_numbered, is_ready_tablet, proposal_rule};
 
 use barrier_core::Evidence;
 use base_ids::{EventRule, Session};
@@ -17,7 +17,7 @@ pub(crate) fn propose_rule(
     evidence: &Evidence,
     command: &Command,
 ) -> Option<EventRule>
-    ensures { result ≡ propose_rule state.now evidence.now.facts command.now }
+    ensures { result ≡ proposal_rule state.now evidence.now.facts command.now }
 {
     if lacks_evidence(state, evidence, command) {
         return Some(EventRule::NoEvidence);
@@ -36,7 +36,7 @@ pub(crate) fn propose_rule(
 
 /// Whether requests of the version that was seen may still be under way. A fence needs no evidence.
 fn lacks_evidence(state: &TopoState, evidence: &Evidence, command: &Command) -> bool
-    ensures { result ≡ lacks_evidence state.now evidence.now.facts command.now }
+    ensures { result ≡ awaits_evidence state.now evidence.now.facts command.now }
 {
     match command {
         Command::SetFence(_) => false,
@@ -48,7 +48,7 @@ fn lacks_evidence(state: &TopoState, evidence: &Evidence, command: &Command) -> 
 
 /// Whether streaming would be left for reading the new replicas, and no host has told that it pulled all.
 fn lacks_done(state: &TopoState, evidence: &Evidence, command: &Command) -> bool
-    ensures { result ≡ lacks_done state.now evidence.now.facts command.now }
+    ensures { result ≡ awaits_done state.now evidence.now.facts command.now }
 {
     match command {
         Command::Advance {
@@ -61,7 +61,7 @@ fn lacks_done(state: &TopoState, evidence: &Evidence, command: &Command) -> bool
 
 /// Whether a stage that cleans would be left, and no host has told that it cleaned.
 fn lacks_cleaned(state: &TopoState, evidence: &Evidence, command: &Command) -> bool
-    ensures { result ≡ lacks_cleaned state.now evidence.now.facts command.now }
+    ensures { result ≡ awaits_cleaned state.now evidence.now.facts command.now }
 {
     match command {
         Command::Advance { session, .. } => cleans(state, *session)
@@ -72,7 +72,7 @@ fn lacks_cleaned(state: &TopoState, evidence: &Evidence, command: &Command) -> b
 
 /// Whether a table would be split, and a host with a replica of it has not told that it is ready.
 fn lacks_ready(state: &TopoState, evidence: &Evidence, command: &Command) -> bool
-    ensures { result ≡ lacks_ready state.now evidence.now.facts command.now }
+    ensures { result ≡ awaits_ready state.now evidence.now.facts command.now }
 {
     match command {
         Command::FinalizeResize { table, seq } => match state.table(*table) {
@@ -97,7 +97,7 @@ fn streams(state: &TopoState, session: Session) -> bool
 
 /// Whether the session is at a stage that cleans.
 fn cleans(state: &TopoState, session: Session) -> bool
-    ensures { result ≡ is_some (cleaned_host (transition_of state.now session)) }
+    ensures { result ≡ is_some (cleaned_host_in (transition_of state.now session)) }
 {
     match transition_of(state, session) {
         None => false,
@@ -107,7 +107,7 @@ fn cleans(state: &TopoState, session: Session) -> bool
 
 /// Whether it is a decision to split that has this number.
 fn splits_by(decision: Option<Resize>, seq: Session) -> bool
-    ensures { result ≡ splits_by seq decision }
+    ensures { result ≡ is_split_numbered seq decision }
 {
     match decision {
         None => false,

@@ -18,7 +18,7 @@ use Rattle.topo_state.specs.declared.data.ResizeKind.TheVariants.{Split, Merge, 
 use Rattle.topo_state.specs.declared.command.Command.{Command}
 use Rattle.topo_state.specs.declared.command.Command.TheVariants.{CreateTable, Start, Advance, SetFence, Join, Leave, Resize, FinalizeResize}
 use Rattle.topo_state.specs.State.{Topology, table_or_empty}
-use Rattle.topo_state.specs.Tables.{table_in, has_id, are_distinct, tablet_count}
+use Rattle.topo_state.specs.Tables.{table_in, has_id, have_distinct_ids, tablet_count}
 use Rattle.topo_state.specs.After.{after, after_finalize, table_after, tables_after, members_after, resized, resized_by, created_tables, advanced}
 use Rattle.topo_state.specs.Rules.{rule, growth, growth_by, IsFit}
 use Rattle.topo_state.specs.Sound.{IsTable, IsTopology}
@@ -63,11 +63,11 @@ resized_count None m = omega arith
 resized_count (Some d) m = resized_count_by d.kind m
 
 -- one table, of those with distinct numbers, has more
-count_grown : (g : Table → Table) (id : TableId) (more : ℕ) → ((t : Table) → eqb id.0 t.id.0 ≡ false → g t ≡ t) → (tables : List Table) → are_distinct tables ≡ true → ((t : Table) → table_in tables id ≡ Some t → size (g t) ≤ size t + more) → tablet_count (map g tables) ≤ tablet_count tables + more
+count_grown : (g : Table → Table) (id : TableId) (more : ℕ) → ((t : Table) → eqb id.0 t.id.0 ≡ false → g t ≡ t) → (tables : List Table) → have_distinct_ids tables ≡ true → ((t : Table) → table_in tables id ≡ Some t → size (g t) ≤ size t + more) → tablet_count (map g tables) ≤ tablet_count tables + more
 count_grown g id more same [] distinct grows = omega arith
 count_grown g id more same (t ∷ rest) distinct grows =
-    let alone : list_any (has_id t.id) rest ≡ false = not_true (list_any (has_id t.id) rest) (and_left (not (list_any (has_id t.id) rest)) (are_distinct rest) distinct) in
-    let others : are_distinct rest ≡ true = and_right (not (list_any (has_id t.id) rest)) (are_distinct rest) distinct in
+    let alone : list_any (has_id t.id) rest ≡ false = not_true (list_any (has_id t.id) rest) (and_left (not (list_any (has_id t.id) rest)) (have_distinct_ids rest) distinct) in
+    let others : have_distinct_ids rest ≡ true = and_right (not (list_any (has_id t.id) rest)) (have_distinct_ids rest) distinct in
     elim (eqb id.0 t.id.0) as (λ v. eqb id.0 t.id.0 ≡ v → ((x : Table) → cond v (Some t) (table_in rest id) ≡ Some x → size (g x) ≤ size x + more) → tablet_count (map g (t ∷ rest)) ≤ tablet_count (t ∷ rest) + more) [
       | true ↦ λ e h.
           let is : id ≡ t.id = ap (λ (n : ℕ). let r : TableId = record { 0 = n } in r) (eqb-true id.0 t.id.0 e) in
@@ -106,7 +106,7 @@ few_after s (FinalizeResize x seq) i ok few = same_few s (FinalizeResize x seq) 
 same_count : (tables : List Table) → tablet_count (tables ++ []) ≡ tablet_count tables
 same_count tables = ap tablet_count (behind_none tables)
 
-pub tablets_after : (s : Topology) (c : Command) (i : ℕ) → rule s c ≡ None → are_distinct s.tables ≡ true → tablet_count s.tables ≤ 1024 → tablet_count (after s c i).tables ≤ 1024
+pub tablets_after : (s : Topology) (c : Command) (i : ℕ) → rule s c ≡ None → have_distinct_ids s.tables ≡ true → tablet_count s.tables ≤ 1024 → tablet_count (after s c i).tables ≤ 1024
 tablets_after s (CreateTable x log2 replicas) i ok distinct few =
     let passes = create_passes s x log2 replicas ok in
     let g : Table → Table = table_after (CreateTable x log2 replicas) i in
@@ -165,7 +165,7 @@ tables_then s (FinalizeResize x seq) i = refl
 same_topology : (a b : Topology) → b.tables ≡ a.tables → b.members ≡ a.members → IsTopology a → IsTopology b
 same_topology a b t m sound =
     record {
-      distinct = ap are_distinct t ∙ sound.distinct;
+      distinct = ap have_distinct_ids t ∙ sound.distinct;
       few = omega (arith, ap (λ (l : List Table). length l) t, sound.few);
       tablets = omega (arith, ap tablet_count t, sound.tablets);
       each = λ id table found.

@@ -32,7 +32,7 @@ use Rattle.topo_state.specs.State.{Topology, table_or_empty, is_on_member, is_me
 use Rattle.topo_state.specs.declared.command.Command.{Command}
 use Rattle.topo_state.specs.declared.command.Command.TheVariants.{CreateTable, Start, Advance, SetFence, Join, Leave, Resize, FinalizeResize}
 use Rattle.topo_state.specs.Tables.{table_in, any_tablet}
-use Rattle.topo_state.specs.After.{advanced, is_end, resized, resized_by, table_after, created_tables, after, with_list, decision, members_after, is_other}
+use Rattle.topo_state.specs.After.{advanced, is_end, resized, resized_by, table_after, created_tables, after, with_list, resize_decision, members_after, is_other}
 use Rattle.topo_state.specs.Rules.{uses_host, is_bad_resize, rule, IsFit}
 use Rattle.topo_state.specs.Sound.{IsOnMembers, IsTable, IsState}
 
@@ -92,7 +92,7 @@ resized_map_by Split m is fits = split_map m.log2 m.list (ltb-true m.log2 10 (no
 resized_map_by Merge m is fits = merge_map m.log2 m.list (ltb-true 0 m.log2 (not_both (nat_lt 0 m.log2) fits)) is
 resized_map_by Keep m is fits = is
 
-pub resized_map : (d : Option Decision) (m : Tablets) → IsMap m.log2 m.list → IfSome d (λ decision. is_bad_resize decision.kind m.log2 ≡ false) → IsMap (resized d m).log2 (resized d m).list
+pub resized_map : (d : Option Decision) (m : Tablets) → IsMap m.log2 m.list → IfSome d (λ resize_decision. is_bad_resize resize_decision.kind m.log2 ≡ false) → IsMap (resized d m).log2 (resized d m).list
 resized_map None m is fits = is
 resized_map (Some d) m is fits = resized_map_by d.kind m is fits
 
@@ -173,7 +173,7 @@ all_left members host (t ∷ rest) none all =
 abbrev Table' : Command → ℕ → Topology → Table → Type 0
 Table' c i s t = IsTable (members_after c s.members) (table_after c i t)
 
-decided_by : (kind : ResizeKind) (i log2 : ℕ) → is_bad_resize kind log2 ≡ false → IfSome (decision kind i) (λ d. is_bad_resize d.kind log2 ≡ false)
+decided_by : (kind : ResizeKind) (i log2 : ℕ) → is_bad_resize kind log2 ≡ false → IfSome (resize_decision kind i) (λ d. is_bad_resize d.kind log2 ≡ false)
 decided_by Split i log2 h = h
 decided_by Merge i log2 h = h
 decided_by Keep i log2 h = tt

@@ -28,22 +28,30 @@ is_end _ = false
 
 abbrev pub moved_on : Transition → List Replica → Option Stage → Tablet
 moved_on transition replicas None =
-    if is_end transition.stage then at_rest (replaced transition.leaving transition.pending replicas) else at_rest replicas
-moved_on transition replicas (Some stage) = record { replicas = replicas; transition = Some (record transition { stage = stage }) }
+    if is_end transition.stage then at_rest (replaced transition.leaving transition.pending replicas)
+    else at_rest replicas
+moved_on transition replicas (Some stage) = record {
+  replicas = replicas;
+  transition = Some (record transition { stage = stage });
+}
 
 -- the transition of the session goes to the stage; a tablet without it stays
 abbrev pub advanced : Session → Option Stage → Tablet → Tablet
 advanced session to tablet =
-    elim tablet.transition [ None ↦ tablet | Some t ↦ if same_session t.session session then moved_on t tablet.replicas to else tablet ]
+    elim tablet.transition [
+      | None ↦ tablet
+      | Some t ↦ if same_session t.session session
+          then moved_on t tablet.replicas to else tablet
+    ]
 
 abbrev pub with_list : Table → List Tablet → Table
 with_list table list = record table { map = record table.map { list = list } }
 
 -- a decision of this number; to keep is none
-abbrev pub decision : ResizeKind → ℕ → Option Decision
-decision Split index = Some (record { kind = Split; seq = record { 0 = index } })
-decision Merge index = Some (record { kind = Merge; seq = record { 0 = index } })
-decision Keep index = None
+abbrev pub resize_decision : ResizeKind → ℕ → Option Decision
+resize_decision Split index = Some (record { kind = Split; seq = record { 0 = index } })
+resize_decision Merge index = Some (record { kind = Merge; seq = record { 0 = index } })
+resize_decision Keep index = None
 
 -- what a decision makes of a table's tablets
 abbrev pub resized_by : ResizeKind → Tablets → Tablets
@@ -53,18 +61,19 @@ resized_by Keep tablets = tablets
 
 abbrev pub resized : Option Decision → Tablets → Tablets
 resized None tablets = tablets
-resized (Some decision) tablets = resized_by decision.kind tablets
+resized (Some resize_decision) tablets = resized_by resize_decision.kind tablets
 
 -- what a start, an advance, a decision and its end make of a table
 abbrev pub after_start : TabletId → Replica → Replica → ℕ → Table → Table
 after_start tablet leaving pending index table =
-    with_list table (slice_set table.map.list tablet.0 (started (tablet_in table.map.list tablet.0) leaving pending (record { 0 = index })))
+    with_list table (slice_set table.map.list tablet.0
+    (started (tablet_in table.map.list tablet.0) leaving pending (record { 0 = index })))
 
 abbrev pub after_advance : Session → Option Stage → Table → Table
 after_advance session to table = with_list table (map (advanced session to) table.map.list)
 
 abbrev pub after_resize : ResizeKind → ℕ → Table → Table
-after_resize kind index table = record table { resize = decision kind index }
+after_resize kind index table = record table { resize = resize_decision kind index }
 
 abbrev pub after_finalize : Table → Table
 after_finalize table = record table { map = resized table.resize table.map; resize = None }

@@ -45,18 +45,18 @@ pub data Cleaned : Type 0 where
   Leaving : Cleaned
   Pending : Cleaned
 
-abbrev pub cleans : Option Stage → Cleaned
-cleans None = Nobody
-cleans (Some AllowWriteBothReadOld) = Nobody
-cleans (Some WriteBothReadOld) = Nobody
-cleans (Some Streaming) = Nobody
-cleans (Some WriteBothReadNew) = Nobody
-cleans (Some UseNew) = Nobody
-cleans (Some Cleanup) = Leaving
-cleans (Some EndMigration) = Leaving
-cleans (Some FallbackCleanup) = Nobody
-cleans (Some CleanupTarget) = Pending
-cleans (Some RevertMigration) = Pending
+abbrev pub cleaned_side : Option Stage → Cleaned
+cleaned_side None = Nobody
+cleaned_side (Some AllowWriteBothReadOld) = Nobody
+cleaned_side (Some WriteBothReadOld) = Nobody
+cleaned_side (Some Streaming) = Nobody
+cleaned_side (Some WriteBothReadNew) = Nobody
+cleaned_side (Some UseNew) = Nobody
+cleaned_side (Some Cleanup) = Leaving
+cleaned_side (Some EndMigration) = Leaving
+cleaned_side (Some FallbackCleanup) = Nobody
+cleaned_side (Some CleanupTarget) = Pending
+cleaned_side (Some RevertMigration) = Pending
 
 abbrev pub cleaned_by : Cleaned → Transition → Replica → Bool
 cleaned_by Nobody t replica = false
@@ -65,7 +65,7 @@ cleaned_by Pending t replica = is_on t.pending.host replica
 
 abbrev pub cleanable_in : Option Transition → Replica → Bool
 cleanable_in None replica = false
-cleanable_in (Some t) replica = cleaned_by (cleans (Some t.stage)) t replica
+cleanable_in (Some t) replica = cleaned_by (cleaned_side (Some t.stage)) t replica
 
 -- a replica of a tablet is on the host that may be cleaned
 abbrev pub is_cleanable : Tablet → Replica → Bool

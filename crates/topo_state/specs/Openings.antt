@@ -28,7 +28,15 @@ distinct_members (host ∷ rest) = not (is_member rest host) && distinct_members
 -- the first state over these hosts, members and tables
 abbrev pub first_state : ℕ → ℕ → List HostId → List Table → Topology
 first_state hosts shards members tables =
-    record { hosts = hosts; shards = shards; members = members; before = members; version = first_version; fence = first_version; tables = tables }
+    record {
+      hosts = hosts;
+      shards = shards;
+      members = members;
+      before = members;
+      version = first_version;
+      fence = first_version;
+      tables = tables;
+    }
 
 -- An opening: 1 to 64 hosts of 1 to 16 shards, one or more members among them, and tables on members that neither
 -- move nor are to be resized. Version and fence are 1.

@@ -17,9 +17,9 @@ table_in (table ∷ rest) id = if same_table id table.id then Some table else ta
 abbrev pub has_id : TableId → Table → Bool
 has_id id table = same_table id table.id
 
-abbrev pub are_distinct : List Table → Bool
-are_distinct [] = true
-are_distinct (table ∷ rest) = not (list_any (has_id table.id) rest) && are_distinct rest
+abbrev pub have_distinct_ids : List Table → Bool
+have_distinct_ids [] = true
+have_distinct_ids (table ∷ rest) = not (list_any (has_id table.id) rest) && have_distinct_ids rest
 
 -- Which tablet of a table is meant, by how the ring is divided there: the one of a number, or the one that a
 -- token lies in.

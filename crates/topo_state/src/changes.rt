@@ -6,7 +6,7 @@ ghost use Rattle.tablet_map.specs.Tablets.{tablet_in};
 ghost use Rattle.tablet_map.specs.Calls.{least_moving};
 ghost use Rattle.topo_state.specs.declared.data.Table.{Table};
 ghost use Rattle.topo_state.specs.Tables.{has_id, table_in};
-ghost use Rattle.topo_state.specs.After.{after_start, after_resize, after_finalize, resized, decision, is_other, members_after, tables_after};
+ghost use Rattle.topo_state.specs.After.{after_start, after_resize, after_finalize, resized, resize_decision, is_other, members_after, tables_after};
 ghost use Rattle.topo_state.specs.Rules.{is_bad_resize, is_apart_for};
 ghost use Rattle.topo_state.specs.Changes.{IsChange};
 
@@ -55,9 +55,13 @@ fn start_at(
 )
     requires here { at < length tables.old }
     requires within { (other : Table) → tablet.0 < length (slice_index_or tables.old at other).map.list }
-    requires rests { (other : Table) → (tablet_in (slice_index_or tables.old at other).map.list tablet.0).transition ≡ None }
-    requires moves { (other : Table) → CanMove (tablet_in (slice_index_or tables.old at other).map.list tablet.0).replicas leaving pending }
-    ensures { (other : Table) → tables.new ≡ slice_set tables.old at (after_start tablet leaving pending index (slice_index_or tables.old at other)) }
+    requires rests { (other : Table) →
+        (tablet_in (slice_index_or tables.old at other).map.list tablet.0).transition ≡ None }
+    requires moves { (other : Table) →
+        CanMove (tablet_in (slice_index_or tables.old at other).map.list tablet.0).replicas leaving pending }
+    ensures { (other : Table) →
+        tables.new ≡
+        slice_set tables.old at (after_start tablet leaving pending index (slice_index_or tables.old at other)) }
 {
     tables[at]
         .map
@@ -82,7 +86,7 @@ fn start(
 
 /// A decision of this number; to keep is none.
 fn decision(kind: ResizeKind, index: u64) -> Option<Resize>
-    ensures { result ≡ decision kind index }
+    ensures { result ≡ resize_decision kind index }
 {
     match kind {
         ResizeKind::Split | ResizeKind::Merge => Some(Resize {
@@ -96,7 +100,8 @@ fn decision(kind: ResizeKind, index: u64) -> Option<Resize>
 /// Gives the table at this place a decision, or takes it back.
 fn decide_at(tables: &mut [Table], at: usize, kind: ResizeKind, index: u64)
     requires { at < length tables.old }
-    ensures { (other : Table) → tables.new ≡ slice_set tables.old at (after_resize kind index (slice_index_or tables.old at other)) }
+    ensures { (other : Table) →
+        tables.new ≡ slice_set tables.old at (after_resize kind index (slice_index_or tables.old at other)) }
 {
     tables[at].resize = decision(kind, index);
 }
@@ -112,7 +117,7 @@ fn decide(tables: &mut [Table], id: TableId, kind: ResizeKind, index: u64)
 
 /// Splits or merges the tablets as the decision says.
 fn carry_out(alloc: Global, map: &mut TabletMap, resize: Option<Resize>) -> Result<(), NoMemory>
-    requires fits { IfSome resize (λ decision. is_bad_resize decision.kind map.old.log2 ≡ false) }
+    requires fits { IfSome resize (λ resize_decision. is_bad_resize resize_decision.kind map.old.log2 ≡ false) }
     requires rests { least_moving map.old.list ≡ None }
     requires pairs { is_apart_for resize map.old.list ≡ false }
     ensures ok { OnOk result (map.new ≡ resized resize map.old) }
@@ -138,7 +143,8 @@ fn carry_out(alloc: Global, map: &mut TabletMap, resize: Option<Resize>) -> Resu
 
 /// Carries out a table's decision and ends it.
 fn finalize_table(alloc: Global, table: &mut Table) -> Result<(), NoMemory>
-    requires fits { IfSome table.old.resize (λ decision. is_bad_resize decision.kind table.old.map.log2 ≡ false) }
+    requires fits { IfSome table.old.resize (λ resize_decision.
+        is_bad_resize resize_decision.kind table.old.map.log2 ≡ false) }
     requires rests { least_moving table.old.map.list ≡ None }
     requires pairs { is_apart_for table.old.resize table.old.map.list ≡ false }
     ensures ok { OnOk result (table.new ≡ after_finalize table.old) }
@@ -153,10 +159,14 @@ fn finalize_table(alloc: Global, table: &mut Table) -> Result<(), NoMemory>
 /// Carries out the decision of the table at this place.
 fn finalize_at(alloc: Global, tables: &mut [Table], at: usize) -> Result<(), NoMemory>
     requires here { at < length tables.old }
-    requires fits { (other : Table) → IfSome (slice_index_or tables.old at other).resize (λ decision. is_bad_resize decision.kind (slice_index_or tables.old at other).map.log2 ≡ false) }
+    requires fits { (other : Table) → IfSome (slice_index_or tables.old at other).resize (λ resize_decision.
+        is_bad_resize resize_decision.kind (slice_index_or tables.old at other).map.log2 ≡ false) }
     requires rests { (other : Table) → least_moving (slice_index_or tables.old at other).map.list ≡ None }
-    requires pairs { (other : Table) → is_apart_for (slice_index_or tables.old at other).resize (slice_index_or tables.old at other).map.list ≡ false }
-    ensures ok { OnOk result ((other : Table) → tables.new ≡ slice_set tables.old at (after_finalize (slice_index_or tables.old at other))) }
+    requires pairs { (other : Table) →
+        is_apart_for (slice_index_or tables.old at other).resize (slice_index_or tables.old at other).map.list ≡
+        false }
+    ensures ok { OnOk result ((other : Table) → tables.new ≡
+        slice_set tables.old at (after_finalize (slice_index_or tables.old at other))) }
     ensures err { OnErr result (tables.new ≡ tables.old) }
 {
     finalize_table(alloc, &mut tables[at])
@@ -198,7 +208,8 @@ fn create(
     index: u64,
 ) -> Result<(), NoMemory>
     requires { IsChange tables.old.items (Command.CreateTable id log2 replicas.now) }
-    ensures ok { OnOk result (tables.new.items ≡ tables_after (Command.CreateTable id log2 replicas.now) index tables.old.items) }
+    ensures ok { OnOk result (tables.new.items ≡
+        tables_after (Command.CreateTable id log2 replicas.now) index tables.old.items) }
     ensures err { OnErr result (tables.new.items ≡ tables.old.items) }
 {
     let map = TabletMap::new(alloc, log2, replicas)?;

@@ -118,7 +118,8 @@ pub enum Rule {
     TableExists,
     /// There is no such table, or no such tablet in it.
     NoSuchTable,
-    /// A host has two of the replicas; or the leaving replica is none of the tablet's, or the pending one's host has one.
+    /// A host has two of the replicas; or the leaving replica is none of the tablet's, or the pending one's host has
+    /// one.
     BadReplicas,
     /// There would be more than 64 tables, or more than 1024 tablets in all of them.
     TooMany,

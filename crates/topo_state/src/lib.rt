@@ -16,7 +16,9 @@ pub use command::{Command, Rule};
 pub use data::{Resize, ResizeKind, Table, TableList};
 pub use laws::{law_fences_rise, law_members_before, law_states_stay_sound, law_versions_rise};
 pub use moves::{Move, has_split, move_of, split_table};
+pub use replicas::is_member;
 pub use state::TopoState;
+pub use tables::{table_in, tablet_count};
 
 #[cfg(test)]
 mod tests;

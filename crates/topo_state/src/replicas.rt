@@ -30,8 +30,8 @@ fn same_replica(a: Replica, b: Replica) -> bool
     a == b
 }
 
-/// Whether a host is a member.
-pub(crate) fn is_member(members: &[HostId], host: HostId) -> bool
+/// Whether a host is among these members.
+pub fn is_member(members: &[HostId], host: HostId) -> bool
     ensures { result ≡ is_member members.now host }
 {
     members.iter().any(|member| same_host(host, *member))

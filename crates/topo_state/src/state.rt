@@ -33,9 +33,25 @@ impl Model for TopoState {
 
     ghost Value = { Topology };
 
-    ghost view = { λ s. record { hosts = s.hosts; shards = s.shards; members = s.members.items; before = s.before.items; version = s.version; fence = s.fence; tables = s.tables.items } };
+    ghost view = { λ s. record {
+      hosts = s.hosts;
+      shards = s.shards;
+      members = s.members.items;
+      before = s.before.items;
+      version = s.version;
+      fence = s.fence;
+      tables = s.tables.items;
+    } };
 
-    ghost invariant = { λ s. IsTopology (record { hosts = s.hosts; shards = s.shards; members = s.members.items; before = s.before.items; version = s.version; fence = s.fence; tables = s.tables.items }) };
+    ghost invariant = { λ s. IsTopology (record {
+      hosts = s.hosts;
+      shards = s.shards;
+      members = s.members.items;
+      before = s.before.items;
+      version = s.version;
+      fence = s.fence;
+      tables = s.tables.items;
+    }) };
 }
 
 impl TopoState {
@@ -139,7 +155,8 @@ impl TopoState {
     /// command's rules.
     pub fn judge(&self, command: &Command) -> Result<(), Rule>
         requires { IsFit command.now }
-        ensures { MatchResult result (λ _. rule self.now command.now ≡ None) (λ broken. rule self.now command.now ≡ Some broken) }
+        ensures { MatchResult result (λ _. rule self.now command.now ≡ None)
+            (λ broken. rule self.now command.now ≡ Some broken) }
     {
         match first_broken(self, command) {
             None => Ok(()),

@@ -12,8 +12,8 @@ use stage_graph::{Stage, next_ok};
 use std::alloc::Global;
 use tablet_map::Tablet;
 
-/// The table of a number.
-pub(crate) fn table_in(tables: &[Table], id: TableId) -> Option<&Table>
+/// The table of a number. `None` exactly where no table has it.
+pub fn table_in(tables: &[Table], id: TableId) -> Option<&Table>
     ensures { option_copied result ≡ table_in tables.now id }
 {
     for table in tables {
@@ -36,7 +36,7 @@ pub(crate) fn clones(alloc: Global, tables: &[Table]) -> Result<Vec<Table>, NoMe
 }
 
 /// How many tablets there are in all tables.
-pub(crate) fn tablet_count(tables: &[Table]) -> usize
+pub fn tablet_count(tables: &[Table]) -> usize
     requires { tablet_count tables.now ≤ 1024 }
     ensures { result ≡ tablet_count tables.now }
 {

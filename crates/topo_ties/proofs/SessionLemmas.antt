@@ -16,11 +16,11 @@ use Rattle.tablet_map.proofs.Joined.{and_left, and_right, not_true}
 use Rattle.topo_state.specs.Moves.{cleans, host_cleaned_at, is_streaming, move_at, move_by, move_in, move_of, streams}
 use Rattle.topo_state.specs.Sessions.{SessionPlace, place_of_session, place_or_later}
 use Rattle.topo_state.specs.State.{Topology}
-use Rattle.topo_state.specs.Tables.{are_distinct, has_id, table_in}
+use Rattle.topo_state.specs.Tables.{have_distinct_ids, has_id, table_in}
 use Rattle.topo_state.specs.declared.data.Table.{Table}
 use Rattle.topo_state.specs.declared.moves.Move.{Move}
 use Rattle.log_law.proofs.PlaceLemmas.{found_place, has_by_id}
-use Rattle.migrate_core.specs.Transitions.{cleaned_at, cleaned_host, streamed_at, streamed_host, transition_at, transition_in, transition_of}
+use Rattle.migrate_core.specs.Transitions.{cleaned_at, cleaned_host_in, streamed_at, streamed_host, transition_at, transition_in, transition_of}
 
 abbrev pub moves_on : Move → Transition
 moves_on move = move.transition
@@ -38,7 +38,7 @@ here table rest session n first None e =
 here table rest session n first (Some transition) e = refl
 
 -- a place in the other tables is not in this one
-behind : (table : Table) (rest : List Table) (session : Session) → list_any (has_id table.id) rest ≡ false → are_distinct rest ≡ true → (o : Option SessionPlace) → place_of_session rest session ≡ o → transition_at (table ∷ rest) o ≡ transition_at rest o
+behind : (table : Table) (rest : List Table) (session : Session) → list_any (has_id table.id) rest ≡ false → have_distinct_ids rest ≡ true → (o : Option SessionPlace) → place_of_session rest session ≡ o → transition_at (table ∷ rest) o ≡ transition_at rest o
 behind table rest session alone distinct None e = refl
 behind table rest session alone distinct (Some place) e =
     let found = found_place rest session place distinct e in
@@ -51,22 +51,22 @@ behind table rest session alone distinct (Some place) e =
       | false ↦ λ k. refl
     ] refl)
 
-transitions_by : (table : Table) (rest : List Table) (session : Session) → list_any (has_id table.id) rest ≡ false → are_distinct rest ≡ true → transition_at rest (place_of_session rest session) ≡ option_map moves_on (move_in rest session) → (o : Option ℕ) → position (has_session session) table.map.list ≡ o → transition_at (table ∷ rest) (place_or_later table.id o (place_of_session rest session)) ≡ option_map moves_on (option_or (move_at table o) (move_in rest session))
+transitions_by : (table : Table) (rest : List Table) (session : Session) → list_any (has_id table.id) rest ≡ false → have_distinct_ids rest ≡ true → transition_at rest (place_of_session rest session) ≡ option_map moves_on (move_in rest session) → (o : Option ℕ) → position (has_session session) table.map.list ≡ o → transition_at (table ∷ rest) (place_or_later table.id o (place_of_session rest session)) ≡ option_map moves_on (option_or (move_at table o) (move_in rest session))
 transitions_by table rest session alone distinct later (Some n) e =
     let named : eqb table.id.0 table.id.0 ≡ true = eq-eqb table.id.0 table.id.0 refl in
     rw named (here table rest session n e (tablet_in table.map.list n).transition refl)
 transitions_by table rest session alone distinct later None e =
     behind table rest session alone distinct (place_of_session rest session) refl ∙ later
 
-transitions : (tables : List Table) (session : Session) → are_distinct tables ≡ true → transition_at tables (place_of_session tables session) ≡ option_map moves_on (move_in tables session)
+transitions : (tables : List Table) (session : Session) → have_distinct_ids tables ≡ true → transition_at tables (place_of_session tables session) ≡ option_map moves_on (move_in tables session)
 transitions [] session distinct = refl
 transitions (table ∷ rest) session distinct =
-    let others : are_distinct rest ≡ true = and_right (not (list_any (has_id table.id) rest)) (are_distinct rest) distinct in
+    let others : have_distinct_ids rest ≡ true = and_right (not (list_any (has_id table.id) rest)) (have_distinct_ids rest) distinct in
     transitions_by table rest session
-    (not_true (list_any (has_id table.id) rest) (and_left (not (list_any (has_id table.id) rest)) (are_distinct rest) distinct))
+    (not_true (list_any (has_id table.id) rest) (and_left (not (list_any (has_id table.id) rest)) (have_distinct_ids rest) distinct))
     others (transitions rest session others) (position (has_session session) table.map.list) refl
 
-pub transition_moves : (state : Topology) (session : Session) → are_distinct state.tables ≡ true → transition_of state session ≡ option_map moves_on (move_of state session)
+pub transition_moves : (state : Topology) (session : Session) → have_distinct_ids state.tables ≡ true → transition_of state session ≡ option_map moves_on (move_of state session)
 transition_moves state session distinct = transitions state.tables session distinct
 
 -- it streams where the move streams, and cleans where the move cleans
@@ -84,14 +84,14 @@ moves_stream : (move : Option Move) → is_some (streamed_host (option_map moves
 moves_stream None = refl
 moves_stream (Some move) = stage_streams move.transition.stage move.transition
 
-moves_clean : (move : Option Move) → is_some (cleaned_host (option_map moves_on move)) ≡ cleans move
+moves_clean : (move : Option Move) → is_some (cleaned_host_in (option_map moves_on move)) ≡ cleans move
 moves_clean None = refl
 moves_clean (Some move) = stage_cleans move.transition.stage move.transition
 
-pub session_streams : (state : Topology) (session : Session) → are_distinct state.tables ≡ true → is_some (streamed_host (transition_of state session)) ≡ streams (move_of state session)
+pub session_streams : (state : Topology) (session : Session) → have_distinct_ids state.tables ≡ true → is_some (streamed_host (transition_of state session)) ≡ streams (move_of state session)
 session_streams state session distinct =
     ap (λ t. is_some (streamed_host t)) (transition_moves state session distinct) ∙ moves_stream (move_of state session)
 
-pub session_cleans : (state : Topology) (session : Session) → are_distinct state.tables ≡ true → is_some (cleaned_host (transition_of state session)) ≡ cleans (move_of state session)
+pub session_cleans : (state : Topology) (session : Session) → have_distinct_ids state.tables ≡ true → is_some (cleaned_host_in (transition_of state session)) ≡ cleans (move_of state session)
 session_cleans state session distinct =
-    ap (λ t. is_some (cleaned_host t)) (transition_moves state session distinct) ∙ moves_clean (move_of state session)
+    ap (λ t. is_some (cleaned_host_in t)) (transition_moves state session distinct) ∙ moves_clean (move_of state session)

@@ -6,7 +6,7 @@ use Rattle.base_ids.specs.declared.ids.HostId.{HostId}
 use Rattle.base_ids.specs.declared.ids.MsgRef.{MsgRef}
 use Rattle.barrier_core.specs.declared.data.Told.{Told}
 use Rattle.topo_state.specs.State.{Topology}
-use Rattle.topo_state.specs.Tables.{are_distinct}
+use Rattle.topo_state.specs.Tables.{have_distinct_ids}
 use Rattle.topo_state.specs.declared.command.Command.{Command}
 use Rattle.topo_coord.specs.Topo.{TopoView}
 use Rattle.topo_coord.specs.declared.data.TopoInput.TheVariants.{Ask as AskInput, Hear as HearInput, HearNotMine, Look as LookInput, Propose as ProposeInput}
@@ -36,7 +36,7 @@ use Rattle.topo_ties.proofs.RuleLemmas.{same_rule}
 -- ---- the rule of a proposal
 
 -- the tables of the state that was seen have distinct numbers
-seen_distinct : (opening : Opening) (history : History) (host : HostId) → IsValidOpening opening → IsLegalHistory opening history → are_distinct (seen_state opening history host).tables ≡ true
+seen_distinct : (opening : Opening) (history : History) (host : HostId) → IsValidOpening opening → IsLegalHistory opening history → have_distinct_ids (seen_state opening history host).tables ≡ true
 seen_distinct opening history host valid legal =
     ((sound_states_law (opening_state opening) valid.topology (log_of history) (log_legal opening history legal)).states (look_of history host)).distinct
 

@@ -1,6 +1,7 @@
 -- How a topology coordinator is tied to a history: what the history says of it as the coordinator's own plain data,
 -- what each event gives it, and what it then does.
 use Rattle.std.specs.Prelude.{List, None, Option, Some, [], false, length, ℕ, ◌∷◌, ◌≡◌}
+use Rattle.group0_log.specs.Log.{outcome_of}
 use Rattle.base_ids.specs.declared.ids.Actor.TheVariants.{Topo as ByTopo}
 use Rattle.base_ids.specs.declared.ids.HostId.{HostId}
 use Rattle.base_ids.specs.declared.rules.Appended.{Appended}
@@ -15,7 +16,6 @@ use Rattle.topo_coord.specs.declared.data.TopoOut.TheVariants.{Ask as AskOut, No
 use Rattle.cluster_history.specs.History.{History, actor_of, is_by, is_restart_of, message_at}
 use Rattle.cluster_history.specs.Legal.{IsLegalHistory, broken_rule, entry_of, outputs_of}
 use Rattle.cluster_history.specs.Openings.{IsValidOpening, opening_state}
-use Rattle.cluster_history.specs.Outputs.{outcome_of}
 use Rattle.cluster_history.specs.Topology.{evidence_of, last_state, log_of, look_of, seen_state}
 use Rattle.cluster_history.specs.declared.data.Entry.{Entry}
 use Rattle.cluster_history.specs.declared.data.Event.{Event}
@@ -54,8 +54,8 @@ topo_input opening history (Propose topo command) = Some (ProposeInput command)
 topo_input opening history event = None
 
 -- what becomes of a command whose proposer has read the state of this number
-abbrev pub proposed : Opening → History → ℕ → Command → Appended Rule
-proposed opening history read command =
+abbrev pub proposal_outcome : Opening → History → ℕ → Command → Appended Rule
+proposal_outcome opening history read command =
     outcome_of read (length (log_of history)) (rule (last_state opening history) command)
 
 -- the outputs of what it gives out, by what becomes of a proposal
@@ -71,7 +71,7 @@ pub record IsTopoPlay (opening : Opening) (history : History) (host : HostId) (e
     (input : TopoInput) : Type 0 where
   pub fits : topo_rule (topo_view opening history host) input ≡ None
   pub outputs :
-      topo_outputs (proposed opening history) (topo_out (topo_view opening history host) input)
+      topo_outputs (proposal_outcome opening history) (topo_out (topo_view opening history host) input)
       ≡ outputs_of opening history event
   pub after :
       topo_after (topo_view opening history host) input

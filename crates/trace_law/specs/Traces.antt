@@ -20,7 +20,8 @@ pub record IsWithin (journal : Journal) : Type 0 where
 -- is that run
 abbrev pub EntriesArePlayed : Type 0
 EntriesArePlayed =
-    (journal : Journal) (number : ℕ) → IsLegalRun journal → IsWithin journal → played (schedule_from number journal) ≡ ended journal
+    (journal : Journal) (number : ℕ) → IsLegalRun journal → IsWithin journal →
+    played (schedule_from number journal) ≡ ended journal
 
 -- The written form of the journal is the text of a schedule. The schedule has the journal's opening and a line for each
 -- of its entries, and its play goes to its end and is the journal.
@@ -34,4 +35,5 @@ pub record IsTrace (journal : Journal) : Type 0 where
 -- the law of the trace
 abbrev pub WrittenRunsAreTraces : Type 0
 WrittenRunsAreTraces =
-    (journal : Journal) → IsLegalRun journal → journal.opening.hosts ≢ 0 → FitsJournal journal → IsWithin journal → IsTrace journal
+    (journal : Journal) → IsLegalRun journal → journal.opening.hosts ≢ 0 → FitsJournal journal → IsWithin journal →
+    IsTrace journal

@@ -22,7 +22,7 @@ use Rattle.cluster_history.specs.declared.data.Operation.{Operation}
 use Rattle.cluster_history.specs.declared.data.Operation.TheVariants.{Read, Write}
 use Rattle.schedule_data.specs.declared.data.LineAct.TheVariants.{Event as OneEvent}
 use Rattle.schedule_data.specs.declared.data.LineRef.TheVariants.{Journal as InJournal}
-use Rattle.schedule_lines.specs.Forms.{OfEvent, act_form, actor, advance, ask, at_version, begin, command, create, finalize, member, of_command, of_host, of_lane, of_lane_message, of_lane_request, of_message, of_session, of_version, operation, read_form, resize, set_fence, start, what, what_session, what_version, write}
+use Rattle.schedule_lines.specs.Forms.{OfEvent, act_form, actor, advance, ask, at_version, begin, command, create, finalize, host_named, of_command, of_host, of_lane, of_lane_message, of_lane_request, of_message, of_session, of_version, operation, read_form, resize, set_fence, start, what, what_session, what_version, write}
 use Rattle.schedule_lines.specs.declared.verbs.ActorWord.TheVariants.{Host as HostWord, Lane as LaneWord, Topo as TopoWord}
 use Rattle.schedule_lines.specs.declared.verbs.CommandVerb.TheVariants.{Advance as AdvanceVerb, Create as CreateVerb, Fence as SetFenceVerb, Finalize as FinalizeVerb, Join as JoinVerb, Leave as LeaveVerb, Resize as ResizeVerb, Start as StartVerb}
 use Rattle.schedule_lines.specs.declared.verbs.EventVerb.TheVariants.{Host as HostEvent, Lane as LaneEvent, Restart as RestartVerb, Topo as TopoEvent}
@@ -34,8 +34,8 @@ use Rattle.schedule_lines.specs.declared.verbs.WhatVerb.TheVariants.{Clean as Cl
 use Rattle.schedule_words.specs.Labels.{LineOf}
 use Rattle.schedule_words.specs.Places.{host, lane, next_replica}
 use Rattle.schedule_words.specs.declared.counts.Counts.{Counts}
-use Rattle.schedule_write.specs.Events.{actor_words, command_words, event_words, operation_words, what_words}
-use Rattle.schedule_write.specs.Words.{host_word, lane_word, reference_word, replica_words}
+use Rattle.schedule_write.specs.Events.{actor_words, spelt_command, event_words, operation_words, spelt_what}
+use Rattle.schedule_write.specs.Words.{spelt_host, spelt_lane, reference_word, replica_words}
 use Rattle.text_grammar.specs.Judging.{if_within}
 use Rattle.text_grammar.specs.Shapes.{AreEach, Each, Is, Shape, Spells}
 use Rattle.topo_state.specs.Rules.{IsFit}
@@ -54,7 +54,7 @@ spells_operation more (Write t k c) rest a fits spells =
 spells_operation more (Read t k) rest a fits spells =
     (ReadVerb, refl, (t, is_table_number t fits, (k, is_token k, spells)))
 
-spells_what : (w : What) → FitsWhat w → Spells what (what_words w) w
+spells_what : (w : What) → FitsWhat w → Spells what (spelt_what w) w
 unfolding what what_version what_session
 spells_what (DrainAsked v) fits = (DrainAsk, refl, (v, (v, is_version v fits, refl), refl))
 spells_what (FenceAsked v) fits = (FenceAsk, refl, (v, (v, is_version v fits, refl), refl))
@@ -86,8 +86,8 @@ spells_each : {A : Type 0} (made : List Replica → A) (replicas : List Replica)
 spells_each made [] fits some few = absurd (omega arith)
 spells_each made (r ∷ replicas) fits some few = (r ∷ replicas, are_replicas (r ∷ replicas) [] fits (omega arith), refl)
 
-spells_command : (x : Command) → FitsCommand x → IsFit x → Spells command (command_words x) x
-unfolding command create start advance set_fence member resize finalize
+spells_command : (x : Command) → FitsCommand x → IsFit x → Spells command (spelt_command x) x
+unfolding command create start advance set_fence host_named resize finalize
 spells_command (CreateTable t b replicas) fits fit = (
   CreateVerb,
   refl,
@@ -121,14 +121,14 @@ pub record AreFew (counts : Counts) (opening : Opening) : Type 0 where
   pub few_lanes : counts.lanes ≤ 4
 
 abbrev IsHostOf : Counts → HostId → Type 0
-IsHostOf counts h = Is (host counts.hosts) (host_word h) h
+IsHostOf counts h = Is (host counts.hosts) (spelt_host h) h
 
 host_there : (counts : Counts) (opening : Opening) → AreFew counts opening → (h : HostId) → HasHost opening h → IsHostOf counts h
 host_there counts opening few h has =
     let hosts : counts.hosts ≡ opening.hosts = few.hosts in
     is_host counts.hosts h (omega arith) few.few_hosts
 
-lane_there : (counts : Counts) (opening : Opening) → AreFew counts opening → (l : LaneId) → HasLane opening l → Is (lane counts) (lane_word l) l
+lane_there : (counts : Counts) (opening : Opening) → AreFew counts opening → (l : LaneId) → HasLane opening l → Is (lane counts) (spelt_lane l) l
 lane_there counts opening few l has =
     let hosts : counts.hosts ≡ opening.hosts = few.hosts in
     let lanes : counts.lanes ≡ opening.lanes = few.lanes in
@@ -142,7 +142,7 @@ spells_actor counts opening few (ByHost h) has = (HostWord, refl, (h, (h, host_t
 spells_actor counts opening few (ByLane l) has = (LaneWord, refl, (l, (l, lane_there counts opening few l has, refl), refl))
 spells_actor counts opening few (ByTopo h) has = (TopoWord, refl, (h, (h, host_there counts opening few h has, refl), refl))
 
-spells_message : (counts : Counts) (opening : Opening) → AreFew counts opening → (labels : LineOf) (h : HostId) (at : MsgRef) → HasHost opening h → FitsReference at → Spells (of_message counts labels) (host_word h ∷ reference_word at ∷ []) (h, InJournal at)
+spells_message : (counts : Counts) (opening : Opening) → AreFew counts opening → (labels : LineOf) (h : HostId) (at : MsgRef) → HasHost opening h → FitsReference at → Spells (of_message counts labels) (spelt_host h ∷ reference_word at ∷ []) (h, InJournal at)
 unfolding of_message
 spells_message counts opening few labels h at has fits =
     (h, host_there counts opening few h has, (InJournal at, is_reference labels at fits, refl))

@@ -18,7 +18,7 @@ use Rattle.schedule_header.specs.Forms.{count, count_by, count_line, header_line
 use Rattle.schedule_header.specs.Header.{Header, SaidTable, SaidTablet, is_placed}
 use Rattle.schedule_words.specs.Places.{next_replica}
 use Rattle.schedule_words.specs.declared.verbs.HeaderVerb.TheVariants.{Table as TableWord, Tablet as TabletWord}
-use Rattle.schedule_write.specs.Words.{host_word, replica_words}
+use Rattle.schedule_write.specs.Words.{spelt_host, replica_words}
 use Rattle.tablet_map.proofs.Joined.{or_left, or_right}
 use Rattle.tablet_map.specs.Calls.{new_tablets}
 use Rattle.tablet_map.specs.declared.tablet.Tablet.{Tablet}
@@ -59,7 +59,7 @@ unfolding count_line count
 spells_count limit most n name some few less small =
     (n, (n, is_number limit n (omega arith) small, counted most n name some few), refl)
 
-are_members : (hosts : ℕ) → hosts ≤ 64 → (members earlier : List HostId) → All (λ (h : HostId). h.0 < hosts) members → distinct_members (earlier ++ members) ≡ true → AreEach (member hosts) earlier (map host_word members) (earlier ++ members)
+are_members : (hosts : ℕ) → hosts ≤ 64 → (members earlier : List HostId) → All (λ (h : HostId). h.0 < hosts) members → distinct_members (earlier ++ members) ≡ true → AreEach (member hosts) earlier (map spelt_host members) (earlier ++ members)
 unfolding member
 are_members hosts small [] earlier within distinct = append-nil earlier
 are_members hosts small (h ∷ members) earlier within distinct =
@@ -68,12 +68,12 @@ are_members hosts small (h ∷ members) earlier within distinct =
       h,
       (h, is_host hosts h (All-head (λ (x : HostId). x.0 < hosts) h members within) small, rw none refl),
       subst
-          (AreEach (member hosts) (earlier ++ h ∷ []) (map host_word members))
+          (AreEach (member hosts) (earlier ++ h ∷ []) (map spelt_host members))
           more
           (are_members hosts small members (earlier ++ h ∷ []) (All-tail (λ (x : HostId). x.0 < hosts) h members within) (subst (λ (list : List HostId). distinct_members list ≡ true) (sym more) distinct)),
     )
 
-pub spells_members : (hosts : ℕ) → hosts ≤ 64 → (members : List HostId) → 1 ≤ length members → All (λ (h : HostId). h.0 < hosts) members → distinct_members members ≡ true → Spells (members_line hosts) (map host_word members) members
+pub spells_members : (hosts : ℕ) → hosts ≤ 64 → (members : List HostId) → 1 ≤ length members → All (λ (h : HostId). h.0 < hosts) members → distinct_members members ≡ true → Spells (members_line hosts) (map spelt_host members) members
 unfolding members_line
 spells_members hosts small [] some within distinct = absurd (omega arith)
 spells_members hosts small (h ∷ members) some within distinct = (h ∷ members, are_members hosts small (h ∷ members) [] within distinct, refl)

@@ -22,14 +22,14 @@ use Rattle.tablet_map.specs.Tablets.{tablet_in}
 use Rattle.written_text.specs.Fits.{FitsTable}
 use Rattle.schedule_text.specs.Language.{Body, InBody, InHeader, Nothing, SaidFormat, SaidHeader, schedules}
 use Rattle.schedule_write.specs.Words.{replica_words}
-use Rattle.schedule_write.specs.Written.{count_lines, first_replicas, header_lines, members_line, same_replicas, table_lines, tablet_lines}
+use Rattle.schedule_write.specs.Written.{count_lines, first_replicas, header_lines, spelt_members, same_replicas, table_lines, tablet_lines}
 use Rattle.tablet_map.proofs.Joined.{or_left, or_right}
 use Rattle.tablet_map.specs.Calls.{at_rest, new_tablets}
 use Rattle.tablet_map.specs.declared.tablet.Tablet.{Tablet}
 use Rattle.tablet_map.specs.declared.tablet.Transition.{Transition}
 use Rattle.text_grammar.specs.Lines.{Language, Leads, Line}
 use Rattle.token_ring.specs.declared.ring.TabletId.{TabletId}
-use Rattle.topo_state.specs.Tables.{are_distinct, has_id, tablet_count}
+use Rattle.topo_state.specs.Tables.{have_distinct_ids, has_id, tablet_count}
 use Rattle.topo_state.specs.declared.data.Resize.{Resize}
 use Rattle.topo_state.specs.declared.data.Table.{Table}
 use Rattle.written_text.proofs.FitLemmas.{IsTableFit, IsTabletFit, both, no_table_before, no_table_behind, opening_fits}
@@ -199,7 +199,7 @@ table_leads opening earlier t placed number place few all fit new =
 some_tablets : (n b : ℕ) → n ≡ 2 ^ b → 1 ≤ n
 some_tablets n b e = let some : 0 < 2 ^ b = pow_pos b in omega arith
 
-tables_lead : (opening : Opening) → opening.hosts ≤ 64 → opening.shards ≤ 16 → (earlier tables : List Table) (placed : List (TableId × TabletId)) (number : ℕ) → are_distinct (earlier ++ tables) ≡ true → length (earlier ++ tables) ≤ 64 → tablet_count (earlier ++ tables) ≤ 1024 → AllByRecursion (IsTableFit opening) tables → AllByRecursion (IsUnplaced placed) tables
+tables_lead : (opening : Opening) → opening.hosts ≤ 64 → opening.shards ≤ 16 → (earlier tables : List Table) (placed : List (TableId × TabletId)) (number : ℕ) → have_distinct_ids (earlier ++ tables) ≡ true → length (earlier ++ tables) ≤ 64 → tablet_count (earlier ++ tables) ≤ 1024 → AllByRecursion (IsTableFit opening) tables → AllByRecursion (IsUnplaced placed) tables
     → LeadsOver opening earlier (earlier ++ tables) placed number (flat_map table_lines tables)
 tables_lead opening small least earlier [] placed number distinct few all fit new =
     record { after = placed; leads = ap (λ (tables : List Table). InHeader (header_at opening tables placed)) (append-nil earlier) }
@@ -218,7 +218,7 @@ tables_lead opening small least earlier (t ∷ tables) placed number distinct fe
     let more : (earlier ++ t ∷ []) ++ tables ≡ earlier ++ t ∷ tables = append_assoc earlier (t ∷ []) tables in
     let rest : LeadsOver opening (earlier ++ t ∷ []) ((earlier ++ t ∷ []) ++ tables) one.after (number + length (table_lines t)) (flat_map table_lines tables) =
     tables_lead opening small least (earlier ++ t ∷ []) tables one.after (number + length (table_lines t))
-    (subst (λ (list : List Table). are_distinct list ≡ true) (sym more) distinct)
+    (subst (λ (list : List Table). have_distinct_ids list ≡ true) (sym more) distinct)
     (subst (λ (list : List Table). length list ≤ 64) (sym more) few)
     (subst (λ (list : List Table). tablet_count list ≤ 1024) (sym more) all)
     fit.1
@@ -306,7 +306,7 @@ counts_lead opening valid = (
   ),
 )
 
-members_lead : (opening : Opening) (number : ℕ) → IsValidOpening opening → Leads schedules number (InHeader (no_members opening)) (members_line opening.members ∷ []) (InHeader (header_at opening [] []))
+members_lead : (opening : Opening) (number : ℕ) → IsValidOpening opening → Leads schedules number (InHeader (no_members opening)) (spelt_members opening.members ∷ []) (InHeader (header_at opening [] []))
 unfolding header_line
 members_lead opening number valid = (
   InHeader (header_at opening [] []),
@@ -347,9 +347,9 @@ header_leads opening valid fits =
     let sound = valid.topology.sound in
     let counts : ℕ = 1 + length (count_lines opening) in
     let tables = tables_lead opening valid.topology.hosts.1 valid.topology.shards.1 [] opening.tables [] (counts + 1) sound.distinct sound.few sound.tablets (opening_fits opening valid fits) (all_unplaced opening.tables) in
-    leads_append schedules 1 Nothing (InHeader (no_members opening)) (InBody (body_of opening)) (count_lines opening) (members_line opening.members ∷ (flat_map table_lines opening.tables ++ (codes "go" ∷ []) ∷ []))
+    leads_append schedules 1 Nothing (InHeader (no_members opening)) (InBody (body_of opening)) (count_lines opening) (spelt_members opening.members ∷ (flat_map table_lines opening.tables ++ (codes "go" ∷ []) ∷ []))
     (counts_lead opening valid)
-    (leads_append schedules counts (InHeader (no_members opening)) (InHeader (header_at opening [] [])) (InBody (body_of opening)) (members_line opening.members ∷ []) (flat_map table_lines opening.tables ++ (codes "go" ∷ []) ∷ [])
+    (leads_append schedules counts (InHeader (no_members opening)) (InHeader (header_at opening [] [])) (InBody (body_of opening)) (spelt_members opening.members ∷ []) (flat_map table_lines opening.tables ++ (codes "go" ∷ []) ∷ [])
     (members_lead opening counts valid)
     (leads_append schedules (counts + 1) (InHeader (header_at opening [] [])) (InHeader (header_at opening opening.tables tables.after)) (InBody (body_of opening)) (flat_map table_lines opening.tables) ((codes "go" ∷ []) ∷ [])
     tables.leads

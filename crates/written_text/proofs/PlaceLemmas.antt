@@ -21,16 +21,16 @@ use Rattle.report_text.specs.Report.{cell_text}
 use Rattle.schedule_data.specs.declared.data.LineRef.TheVariants.{Journal as InJournal}
 use Rattle.schedule_words.proofs.TokenLemmas.{token_told}
 use Rattle.schedule_words.specs.Labels.{LineOf}
-use Rattle.schedule_words.specs.Places.{any_host, any_lane, any_replica, by_entry, by_label, cell, dead_by, has_lane, host, lane, live_by, log2, number, operation_number, output_number, reference, resize_kind, session, signed, signed_by, signed_size, table_number, tablet_number, target, token, value, version}
+use Rattle.schedule_words.specs.Places.{any_host, any_lane, any_replica, by_entry, by_label, cell, dead_by, has_lane, host, lane, live_by, log2, number, operation_number, output_number, reference, resize_kind, session, signed, signed_by, signed_size, table_number, tablet_number, target_place, token, value, version}
 use Rattle.schedule_words.specs.Words.{is_letter}
 use Rattle.schedule_words.specs.declared.counts.Counts.{Counts}
 use Rattle.schedule_words.specs.declared.verbs.BodyKind.TheVariants.{Dead as DeadWord, Live as LiveWord}
-use Rattle.schedule_write.specs.Words.{host_word, lane_word, reference_word, replica_word, resize_word, target_word}
+use Rattle.schedule_write.specs.Words.{spelt_host, spelt_lane, reference_word, replica_word, spelt_resize, spelt_target}
 use Rattle.stage_graph.specs.declared.stage.Stage.{Stage}
 use Rattle.stage_graph.specs.declared.stage.Stage.TheVariants.{AllowWriteBothReadOld, Cleanup, CleanupTarget, EndMigration, FallbackCleanup, RevertMigration, Streaming, UseNew, WriteBothReadNew, WriteBothReadOld}
 use Rattle.text_grammar.specs.Judging.{if_so, told_as}
 use Rattle.text_grammar.specs.Readings.{◌>>=◌}
-use Rattle.text_grammar.specs.Shapes.{Digits, Either, Is, Place, begins, tail}
+use Rattle.text_grammar.specs.Shapes.{Digits, Either, Is, Place, begins_with, tail}
 use Rattle.text_grammar.specs.Words.{IsCut, IsDigit, IsFree}
 use Rattle.text_grammar.specs.declared.faults.Fault.{Fault}
 use Rattle.text_grammar.specs.declared.faults.TextRule.{TextRule}
@@ -110,19 +110,19 @@ is_log2 b few = (b, is_number (2 ^ 8) b (omega arith) (omega arith), rw (not_abo
 
 -- ---- hosts, lanes and replicas
 
-pub is_any_host : (h : HostId) → h.0 < 2 ^ 16 → Is any_host (host_word h) h
+pub is_any_host : (h : HostId) → h.0 < 2 ^ 16 → Is any_host (spelt_host h) h
 unfolding any_host
 is_any_host h fits = (h.0, is_number (2 ^ 16) h.0 fits (omega arith), refl)
 
-pub is_host : (hosts : ℕ) (h : HostId) → h.0 < hosts → hosts ≤ 64 → Is (host hosts) (host_word h) h
+pub is_host : (hosts : ℕ) (h : HostId) → h.0 < hosts → hosts ≤ 64 → Is (host hosts) (spelt_host h) h
 unfolding host
 is_host hosts h few small =
     (h, is_any_host h (omega arith), passes (nat_lt h.0 hosts) BadActor h (below h.0 hosts few))
 
-is_any_lane : (l : LaneId) → l.host.0 < 2 ^ 16 → l.lane < 2 ^ 8 → Is any_lane (lane_word l) l
+is_any_lane : (l : LaneId) → l.host.0 < 2 ^ 16 → l.lane < 2 ^ 8 → Is any_lane (spelt_lane l) l
 unfolding any_lane
 is_any_lane l fits few = (
-  host_word l.host,
+  spelt_host l.host,
   decimal l.lane,
   l.host,
   decimal_cut 46 l.host.0 (decimal l.lane) (omega arith) dot_free,
@@ -130,7 +130,7 @@ is_any_lane l fits few = (
   (l.lane, is_number (2 ^ 8) l.lane few (omega arith), refl),
 )
 
-pub is_lane : (counts : Counts) (l : LaneId) → l.host.0 < counts.hosts → counts.hosts ≤ 64 → l.lane < counts.lanes → counts.lanes ≤ 4 → Is (lane counts) (lane_word l) l
+pub is_lane : (counts : Counts) (l : LaneId) → l.host.0 < counts.hosts → counts.hosts ≤ 64 → l.lane < counts.lanes → counts.lanes ≤ 4 → Is (lane counts) (spelt_lane l) l
 unfolding lane
 is_lane counts l few small less least = (
   l,
@@ -142,7 +142,7 @@ pub is_any_replica : (r : Replica) → FitsReplica r → Is any_replica (replica
 unfolding any_replica
 is_any_replica r fits =
     let host_fits : r.host.0 < 2 ^ 16 = fits.0 in (
-      host_word r.host,
+      spelt_host r.host,
       decimal r.shard.0,
       r.host,
       decimal_cut 58 r.host.0 (decimal r.shard.0) (omega arith) digit_colon_free,
@@ -152,7 +152,7 @@ is_any_replica r fits =
 
 -- ---- references
 
-no_letter : (word : List ℕ) (back : List ℕ) → 0 < length word → AllByRecursion IsDigit word → begins is_letter (word ++ back) ≡ false
+no_letter : (word : List ℕ) (back : List ℕ) → 0 < length word → AllByRecursion IsDigit word → begins_with is_letter (word ++ back) ≡ false
 no_letter [] back some all = absurd (omega arith)
 no_letter (byte ∷ word) back some all =
     let high : byte ≤ 57 = all.0.1 in
@@ -184,7 +184,7 @@ abbrev size_of : ℤ → Bool × ℕ
 size_of (pos n) = (false, n)
 size_of (negsuc n) = (true, suc n)
 
-no_sign : (word : List ℕ) → AllByRecursion IsDigit word → begins (λ b. b == 45) word ≡ false
+no_sign : (word : List ℕ) → AllByRecursion IsDigit word → begins_with (λ b. b == 45) word ≡ false
 no_sign [] all = refl
 no_sign (byte ∷ word) all =
     let low : 48 ≤ byte = all.0.0 in
@@ -301,7 +301,7 @@ is_cell c fits = is_cell_by c.timestamp c.body fits.0 fits.1
 
 -- ---- words
 
-pub is_target : (to : Option Stage) → Is target (target_word to) to
+pub is_target : (to : Option Stage) → Is target_place (spelt_target to) to
 is_target None = refl
 is_target (Some AllowWriteBothReadOld) = refl
 is_target (Some WriteBothReadOld) = refl
@@ -314,7 +314,7 @@ is_target (Some FallbackCleanup) = refl
 is_target (Some CleanupTarget) = refl
 is_target (Some RevertMigration) = refl
 
-pub is_resize_kind : (kind : ResizeKind) → Is resize_kind (resize_word kind) kind
+pub is_resize_kind : (kind : ResizeKind) → Is resize_kind (spelt_resize kind) kind
 is_resize_kind Split = refl
 is_resize_kind Merge = refl
 is_resize_kind Keep = refl

@@ -25,9 +25,9 @@ use Rattle.cluster_history.specs.declared.data.Opening.{Opening}
 use Rattle.cluster_history.specs.declared.data.Operation.{Operation}
 use Rattle.cluster_history.specs.declared.data.Operation.TheVariants.{Read, Write}
 use Rattle.report_text.specs.Report.{body_text}
-use Rattle.schedule_write.specs.Events.{actor_words, command_words, event_words, operation_words, what_words}
-use Rattle.schedule_write.specs.Words.{host_word, lane_word, reference_word, replica_word, replica_words, resize_word, target_word}
-use Rattle.schedule_write.specs.Written.{first_replicas, header_lines, same_replicas, table_lines, tablet_line, tablet_lines}
+use Rattle.schedule_write.specs.Events.{actor_words, spelt_command, event_words, operation_words, spelt_what}
+use Rattle.schedule_write.specs.Words.{spelt_host, spelt_lane, reference_word, replica_word, replica_words, spelt_resize, spelt_target}
+use Rattle.schedule_write.specs.Written.{first_replicas, header_lines, same_replicas, table_lines, spelt_tablet, tablet_lines}
 use Rattle.stage_graph.specs.declared.stage.Stage.{Stage}
 use Rattle.stage_graph.specs.declared.stage.Stage.TheVariants.{AllowWriteBothReadOld, Cleanup, CleanupTarget, EndMigration, FallbackCleanup, RevertMigration, Streaming, UseNew, WriteBothReadNew, WriteBothReadOld}
 use Rattle.tablet_map.specs.Tablets.{tablet_in}
@@ -141,20 +141,20 @@ cell_plain z (Dead time) fits few = record {
       (all_append (λ byte. 33 ≤ byte) (signed_decimal z) (58 ∷ decimal time) (signed_bytes z fits) (omega arith, decimal_bytes time (omega arith)));
 }
 
-target_plain : (to : Option Stage) → IsPlain (target_word to)
+target_plain : (to : Option Stage) → IsPlain (spelt_target to)
 target_plain None = known (codes "none") refl
-target_plain (Some AllowWriteBothReadOld) = known (target_word (Some AllowWriteBothReadOld)) refl
-target_plain (Some WriteBothReadOld) = known (target_word (Some WriteBothReadOld)) refl
-target_plain (Some Streaming) = known (target_word (Some Streaming)) refl
-target_plain (Some WriteBothReadNew) = known (target_word (Some WriteBothReadNew)) refl
-target_plain (Some UseNew) = known (target_word (Some UseNew)) refl
-target_plain (Some Cleanup) = known (target_word (Some Cleanup)) refl
-target_plain (Some EndMigration) = known (target_word (Some EndMigration)) refl
-target_plain (Some FallbackCleanup) = known (target_word (Some FallbackCleanup)) refl
-target_plain (Some CleanupTarget) = known (target_word (Some CleanupTarget)) refl
-target_plain (Some RevertMigration) = known (target_word (Some RevertMigration)) refl
+target_plain (Some AllowWriteBothReadOld) = known (spelt_target (Some AllowWriteBothReadOld)) refl
+target_plain (Some WriteBothReadOld) = known (spelt_target (Some WriteBothReadOld)) refl
+target_plain (Some Streaming) = known (spelt_target (Some Streaming)) refl
+target_plain (Some WriteBothReadNew) = known (spelt_target (Some WriteBothReadNew)) refl
+target_plain (Some UseNew) = known (spelt_target (Some UseNew)) refl
+target_plain (Some Cleanup) = known (spelt_target (Some Cleanup)) refl
+target_plain (Some EndMigration) = known (spelt_target (Some EndMigration)) refl
+target_plain (Some FallbackCleanup) = known (spelt_target (Some FallbackCleanup)) refl
+target_plain (Some CleanupTarget) = known (spelt_target (Some CleanupTarget)) refl
+target_plain (Some RevertMigration) = known (spelt_target (Some RevertMigration)) refl
 
-resize_plain : (kind : ResizeKind) → IsPlain (resize_word kind)
+resize_plain : (kind : ResizeKind) → IsPlain (spelt_resize kind)
 resize_plain Split = known (codes "split") refl
 resize_plain Merge = known (codes "merge") refl
 resize_plain Keep = known (codes "keep") refl
@@ -164,7 +164,7 @@ resize_plain Keep = known (codes "keep") refl
 small_number : (n : ℕ) → n < 2 ^ 32 → IsPlain (decimal n)
 small_number n fits = number_plain n (omega arith)
 
-host_plain : (h : HostId) → h.0 < 2 ^ 16 → IsPlain (host_word h)
+host_plain : (h : HostId) → h.0 < 2 ^ 16 → IsPlain (spelt_host h)
 host_plain h fits = number_plain h.0 (omega arith)
 
 operation_plain : (op : Operation) (rest : List (List ℕ)) → FitsOperation op → IsPlainLine rest → IsPlainLine (operation_words op ++ rest)
@@ -177,14 +177,14 @@ operation_plain (Read t k) rest fits more = (
   (small_number t.0 fits, (signed_plain k.value (token_fits k.value k.is_token), more)),
 )
 
-what_plain : (w : What) → FitsWhat w → IsPlainLine (what_words w)
+what_plain : (w : What) → FitsWhat w → IsPlainLine (spelt_what w)
 what_plain (DrainAsked v) fits = (known (codes "drain") refl, (number_plain v.0 fits, tt))
 what_plain (FenceAsked v) fits = (known (codes "fence") refl, (number_plain v.0 fits, tt))
 what_plain (DoneAsked s) fits = (known (codes "done") refl, (number_plain s.0 fits, tt))
 what_plain (CleanAsked s) fits = (known (codes "clean") refl, (number_plain s.0 fits, tt))
 what_plain (ReadyAsked s) fits = (known (codes "ready") refl, (number_plain s.0 fits, tt))
 
-command_plain : (x : Command) → FitsCommand x → IsFit x → IsPlainLine (command_words x)
+command_plain : (x : Command) → FitsCommand x → IsFit x → IsPlainLine (spelt_command x)
 command_plain (CreateTable t b replicas) fits fit =
     let few : b ≤ 10 = fit.0 in (
       known (codes "create") refl,
@@ -207,12 +207,12 @@ pub record IsSmall (opening : Opening) : Type 0 where
   pub hosts : opening.hosts ≤ 64
   pub lanes : opening.lanes ≤ 4
 
-host_there : (opening : Opening) → IsSmall opening → (h : HostId) → HasHost opening h → IsPlain (host_word h)
+host_there : (opening : Opening) → IsSmall opening → (h : HostId) → HasHost opening h → IsPlain (spelt_host h)
 host_there opening small h has =
     let few : opening.hosts ≤ 64 = small.hosts in
     host_plain h (omega arith)
 
-lane_there : (opening : Opening) → IsSmall opening → (l : LaneId) → HasLane opening l → IsPlain (lane_word l)
+lane_there : (opening : Opening) → IsSmall opening → (l : LaneId) → HasLane opening l → IsPlain (spelt_lane l)
 lane_there opening small l has =
     let few : opening.hosts ≤ 64 = small.hosts in
     let least : opening.lanes ≤ 4 = small.lanes in
@@ -283,7 +283,7 @@ pub lines_append : (one other : List (List (List ℕ))) → ArePlainLines one �
 lines_append [] other all more = more
 lines_append (line ∷ one) other all more = (all.0, lines_append one other all.1 more)
 
-tablet_line_plain : (opening : Opening) → opening.hosts ≤ 64 → opening.shards ≤ 16 → (id : TableId) → id.0 < 2 ^ 32 → (usual : List Replica) (at : ℕ) → at < 2 ^ 64 → (tablet : Tablet) → IsTabletFit opening tablet → ArePlainLines (tablet_line id usual at tablet)
+tablet_line_plain : (opening : Opening) → opening.hosts ≤ 64 → opening.shards ≤ 16 → (id : TableId) → id.0 < 2 ^ 32 → (usual : List Replica) (at : ℕ) → at < 2 ^ 64 → (tablet : Tablet) → IsTabletFit opening tablet → ArePlainLines (spelt_tablet id usual at tablet)
 tablet_line_plain opening small least id fits usual at few tablet fit =
     elim (same_replicas usual tablet.replicas) as (λ (t : Bool). ArePlainLines (if t then [] else (codes "tablet" ∷ decimal id.0 ∷ decimal at ∷ replica_words tablet.replicas) ∷ [])) [
       | true ↦ tt
@@ -293,7 +293,7 @@ tablet_line_plain opening small least id fits usual at few tablet fit =
 tablets_plain : (opening : Opening) → opening.hosts ≤ 64 → opening.shards ≤ 16 → (id : TableId) → id.0 < 2 ^ 32 → (usual : List Replica) (at : ℕ) (tablets : List Tablet) → at + length tablets < 2 ^ 64 → AllByRecursion (IsTabletFit opening) tablets → ArePlainLines (tablet_lines id usual at tablets)
 tablets_plain opening small least id fits usual at [] few fit = tt
 tablets_plain opening small least id fits usual at (tablet ∷ tablets) few fit =
-    lines_append (tablet_line id usual at tablet) (tablet_lines id usual (at + 1) tablets)
+    lines_append (spelt_tablet id usual at tablet) (tablet_lines id usual (at + 1) tablets)
     (tablet_line_plain opening small least id fits usual at (omega arith) tablet fit.0)
     (tablets_plain opening small least id fits usual (at + 1) tablets (omega arith) fit.1)
 
@@ -312,7 +312,7 @@ tables_plain opening small least (t ∷ tables) fit =
     )
     (tables_plain opening small least tables fit.1)
 
-members_plain : (hosts : ℕ) → hosts ≤ 64 → (members : List HostId) → All (λ (h : HostId). h.0 < hosts) members → IsPlainLine (map host_word members)
+members_plain : (hosts : ℕ) → hosts ≤ 64 → (members : List HostId) → All (λ (h : HostId). h.0 < hosts) members → IsPlainLine (map spelt_host members)
 members_plain hosts small [] within = tt
 members_plain hosts small (h ∷ members) within =
     let few : h.0 < hosts = All-head (λ (x : HostId). x.0 < hosts) h members within in

@@ -14,7 +14,7 @@ use Rattle.schedule_data.specs.declared.data.LineAct.{LineAct}
 use Rattle.schedule_data.specs.declared.data.LineAct.TheVariants.{Event as OneEvent}
 use Rattle.schedule_data.specs.declared.data.SchedLine.{SchedLine}
 use Rattle.schedule_lines.specs.Forms.{act_form}
-use Rattle.schedule_text.specs.Language.{Body, InBody, Nothing, Said, SaidAct, State, after_act, after_line, counts_of, form_at, schedules}
+use Rattle.schedule_text.specs.Language.{Body, InBody, Nothing, LineSaid, SaidAct, State, after_act, after_line, counts_of, form_at, schedules}
 use Rattle.schedule_text.specs.Texts.{IsScheduleText}
 use Rattle.schedule_words.specs.Labels.{no_labels}
 use Rattle.schedule_write.specs.Events.{event_words}
@@ -86,8 +86,8 @@ made_act : (number : ℕ) (body : Body) (words : List (List ℕ)) (said : Option
 made_act number body [] said says spells = absurd says
 made_act number body (word ∷ words) said says spells =
     let next : State = InBody (after_act number body said) in
-    let told : (x : Said) × Spells (form_at (InBody body)) (word ∷ words) x × (next ≡ after_line number (InBody body) x) = (SaidAct said, (said, spells, refl), refl) in
-    subst (λ (t : Bool). Either t ((are_ascii (word ∷ words) ≡ true) × (next ≡ InBody body)) ((x : Said) × Spells (form_at (InBody body)) (word ∷ words) x × (next ≡ after_line number (InBody body) x))) (sym says) told
+    let told : (x : LineSaid) × Spells (form_at (InBody body)) (word ∷ words) x × (next ≡ after_line number (InBody body) x) = (SaidAct said, (said, spells, refl), refl) in
+    subst (λ (t : Bool). Either t ((are_ascii (word ∷ words) ≡ true) × (next ≡ InBody body)) ((x : LineSaid) × Spells (form_at (InBody body)) (word ∷ words) x × (next ≡ after_line number (InBody body) x))) (sym says) told
 
 abbrev body_at : Opening → List SchedLine → Body
 body_at opening lines = record { opening = opening; labels = no_labels; lines = lines }

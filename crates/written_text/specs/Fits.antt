@@ -1,5 +1,5 @@
--- Numbers that fit the types that the code has for them, and lists that fit theirs. Specifications have natural numbers and
--- lists of any size in their place.
+-- Numbers that fit the types that the code has for them, and lists that fit theirs. Specifications have natural
+-- numbers and lists of any size in their place.
 use Rattle.std.specs.List.{AllByRecursion}
 use Rattle.std.specs.Prelude.{length, negsuc, pos, ℤ, ◌<◌, ◌^◌, ◌≤◌}
 use Rattle.barrier_core.specs.declared.data.What.{What}

@@ -10,4 +10,5 @@ use Rattle.written_text.specs.Schedules.{schedule_in}
 -- the written form of a legal run of hosts is the text of a schedule with the run's opening and a line for each entry
 abbrev pub WrittenRunsAreTexts : Type 0
 WrittenRunsAreTexts =
-    (journal : Journal) → IsLegalRun journal → journal.opening.hosts ≢ 0 → FitsJournal journal → IsScheduleText (written journal) (schedule_in journal)
+    (journal : Journal) → IsLegalRun journal → journal.opening.hosts ≢ 0 → FitsJournal journal →
+    IsScheduleText (written journal) (schedule_in journal)
