@@ -43,7 +43,7 @@ use Rattle.schedule_play.proofs.FitLemmas.{fit_both}
 use Rattle.schedule_play.proofs.MemberLemmas.{member_has}
 use Rattle.schedule_play.proofs.TargetLemmas.{on_host}
 use Rattle.schedule_play.specs.Fits.{AreFit}
-use Rattle.schedule_play.specs.Shorthands.{asked, drain_host, drain_moves, each_host, fence_host, fence_moves, has_decision, host_to_clean, is_concerned, is_placed_on, moves_of, proposed, raise_fence, readied, ready_host, streamed, sync_moves, tidied}
+use Rattle.schedule_play.specs.Shorthands.{ask_moves, drain_host, drain_moves, each_host, fence_host, fence_moves, has_decision, host_to_clean, is_concerned, is_placed_on, moves_of, propose_moves, raise_fence, readied, ready_host, streamed, sync_moves, tidied}
 use Rattle.schedule_play.specs.declared.moves.Move.{Move}
 use Rattle.schedule_play.specs.declared.moves.Move.TheVariants.{CatchUp}
 
@@ -64,7 +64,7 @@ hosts_fit opening entries moves each (suc count) few =
 each_fit : (opening : Opening) (entries : ℕ) (moves : HostId → List Move) → ((host : HostId) → HasHost opening host → AreFit opening entries (moves host)) → AreFit opening entries (each_host opening moves)
 each_fit opening entries moves each = hosts_fit opening entries moves each opening.hosts (omega arith)
 
-asked_fit : (opening : Opening) (entries : ℕ) (topo host : HostId) (what : What) → HasHost opening topo → HasHost opening host → AreFit opening entries (asked topo host what)
+asked_fit : (opening : Opening) (entries : ℕ) (topo host : HostId) (what : What) → HasHost opening topo → HasHost opening host → AreFit opening entries (ask_moves topo host what)
 asked_fit opening entries topo host what by to = ((by, to), (to, (by, tt)))
 
 or_none : (opening : Opening) (entries : ℕ) (test : Bool) (moves : List Move) → AreFit opening entries moves → AreFit opening entries (if test then moves else [])
@@ -92,7 +92,7 @@ fence_fit opening entries state topo by = (
       or_none opening entries (is_concerned state host) _ (has, asked_fit opening entries topo host (FenceAt state.version) by has))),
 )
 
-proposed_fit : (opening : Opening) (entries : ℕ) (topo : HostId) (command : Command) → HasHost opening topo → IsFit command → AreFit opening entries (proposed opening topo command)
+proposed_fit : (opening : Opening) (entries : ℕ) (topo : HostId) (command : Command) → HasHost opening topo → IsFit command → AreFit opening entries (propose_moves opening topo command)
 proposed_fit opening entries topo command by fit = ((by, fit), sync_fit opening entries)
 
 -- ---- moves of a session
@@ -192,10 +192,10 @@ moves_fit journal entries (Fence topo) moves legal owner fit e =
     is_fit journal.opening entries _ moves (fence_fit journal.opening entries (last_state journal.opening (history_of journal)) topo owner) e
 moves_fit journal entries (Step topo command) moves legal owner fit e =
     is_fit journal.opening entries _ moves
-    (fit_both journal.opening entries (drain_moves journal.opening (last_state journal.opening (history_of journal)) topo) (proposed journal.opening topo command) (drain_fit journal.opening entries (last_state journal.opening (history_of journal)) topo owner) (proposed_fit journal.opening entries topo command owner fit)) e
+    (fit_both journal.opening entries (drain_moves journal.opening (last_state journal.opening (history_of journal)) topo) (propose_moves journal.opening topo command) (drain_fit journal.opening entries (last_state journal.opening (history_of journal)) topo owner) (proposed_fit journal.opening entries topo command owner fit)) e
 moves_fit journal entries (Force topo command) moves legal owner fit e =
     is_fit journal.opening entries _ moves
-    (fit_both journal.opening entries (fence_moves journal.opening (last_state journal.opening (history_of journal)) topo) (proposed journal.opening topo command) (fence_fit journal.opening entries (last_state journal.opening (history_of journal)) topo owner) (proposed_fit journal.opening entries topo command owner fit)) e
+    (fit_both journal.opening entries (fence_moves journal.opening (last_state journal.opening (history_of journal)) topo) (propose_moves journal.opening topo command) (fence_fit journal.opening entries (last_state journal.opening (history_of journal)) topo owner) (proposed_fit journal.opening entries topo command owner fit)) e
 moves_fit journal entries (Stream topo session) moves legal owner fit e =
     stream_fit journal.opening entries topo session (move_of (last_state journal.opening (history_of journal)) session) moves owner
     (λ move found. between journal topo session move legal owner found) e

@@ -32,20 +32,20 @@ use Rattle.schedule_play.specs.declared.moves.Move.TheVariants.{AnswerNewest, Ca
 -- ---- hosts
 
 -- all hosts, in ascending order
-abbrev pub hosts_of : Opening → List HostId
-hosts_of opening = map (λ number. record { 0 = number }) (numbers_below opening.hosts)
+abbrev pub opening_hosts : Opening → List HostId
+opening_hosts opening = map (λ number. record { 0 = number }) (numbers_below opening.hosts)
 
 -- the moves that each host is to make, one host after the other
 abbrev pub each_host : Opening → (HostId → List Move) → List Move
-each_host opening moves = flat_map moves (hosts_of opening)
+each_host opening moves = flat_map moves (opening_hosts opening)
 
 -- the host is a member, or was one before
 abbrev pub is_concerned : Topology → HostId → Bool
 is_concerned state host = is_member state.members host || is_member state.before host
 
 -- a coordinator asks a host, which answers, and hears that
-abbrev pub asked : HostId → HostId → What → List Move
-asked topo host what = Play (Ask topo host what) ∷ AnswerNewest host ∷ HearNewest topo ∷ []
+abbrev pub ask_moves : HostId → HostId → What → List Move
+ask_moves topo host what = Play (Ask topo host what) ∷ AnswerNewest host ∷ HearNewest topo ∷ []
 
 -- ---- sync
 
@@ -68,7 +68,7 @@ do_moves journal lane operation =
 abbrev pub drain_host : HostId → Topology → HostId → List Move
 drain_host topo state host =
     if is_concerned state host
-    then CatchUp host ∷ Play (Quiet host state.version) ∷ asked topo host (DrainAt state.version)
+    then CatchUp host ∷ Play (Quiet host state.version) ∷ ask_moves topo host (DrainAt state.version)
     else []
 
 abbrev pub drain_moves : Opening → Topology → HostId → List Move
@@ -84,7 +84,7 @@ raise_fence topo state =
 
 abbrev pub fence_host : HostId → Topology → HostId → List Move
 fence_host topo state host =
-    if is_concerned state host then CatchUp host ∷ asked topo host (FenceAt state.version) else []
+    if is_concerned state host then CatchUp host ∷ ask_moves topo host (FenceAt state.version) else []
 
 abbrev pub fence_moves : Opening → Topology → HostId → List Move
 fence_moves opening state topo =
@@ -92,14 +92,14 @@ fence_moves opening state topo =
 
 -- ---- step and force
 
-abbrev pub proposed : Opening → HostId → Command → List Move
-proposed opening topo command = Play (Propose topo command) ∷ sync_moves opening
+abbrev pub propose_moves : Opening → HostId → Command → List Move
+propose_moves opening topo command = Play (Propose topo command) ∷ sync_moves opening
 
 abbrev pub step_moves : Opening → Topology → HostId → Command → List Move
-step_moves opening state topo command = drain_moves opening state topo ++ proposed opening topo command
+step_moves opening state topo command = drain_moves opening state topo ++ propose_moves opening topo command
 
 abbrev pub force_moves : Opening → Topology → HostId → Command → List Move
-force_moves opening state topo command = fence_moves opening state topo ++ proposed opening topo command
+force_moves opening state topo command = fence_moves opening state topo ++ propose_moves opening topo command
 
 -- ---- stream and tidy
 
@@ -109,7 +109,7 @@ streamed topo session move =
     let host = move.transition.pending.host in
     CatchUp host
     ∷ PullOn (record { host = host; from = move.transition.leaving.host; session = session })
-    ∷ asked topo host (Done session)
+    ∷ ask_moves topo host (Done session)
 
 abbrev pub stream_moves : Topology → HostId → Session → Option (List Move)
 stream_moves state topo session = option_map (streamed topo session) (move_of state session)
@@ -142,7 +142,7 @@ is_placed_on table host = list_any (λ (tablet : Tablet). has_host tablet.replic
 
 abbrev pub ready_host : HostId → Session → Table → HostId → List Move
 ready_host topo number table host =
-    if is_placed_on table host then CatchUp host ∷ asked topo host (ReadyFor number) else []
+    if is_placed_on table host then CatchUp host ∷ ask_moves topo host (ReadyFor number) else []
 
 abbrev pub readied : Opening → HostId → Session → Table → List Move
 readied opening topo number table = each_host opening (ready_host topo number table)

@@ -3,7 +3,7 @@ ghost use Rattle.std.specs.Prelude.{◌≡◌, ◌≤◌, ℕ, Some, length, rev
 ghost use Rattle.cluster_history.specs.Legal.{opening_journal};
 ghost use Rattle.cluster_history.specs.Openings.{HasLane, HasPart};
 ghost use Rattle.cluster_machine.specs.Step.{most_entries};
-ghost use Rattle.schedule_data.specs.Playable.{HasActorOf, HasOwner, IsFitLine, IsPlayable, actor_of};
+ghost use Rattle.schedule_data.specs.Playable.{HasActorOf, HasOwner, IsFitLine, IsPlayable, line_actor};
 ghost use Rattle.schedule_data.specs.declared.data.LineAct.TheVariants.{Event as OneEvent, Short};
 ghost use Rattle.schedule_play.specs.Fits.{AreFit, IsFitPlay};
 ghost use Rattle.schedule_play.specs.Play.{IsEventPlay, IsPlay, begin_version, event_of, message_ref, places_after, places_in, played, played_act, played_by, played_shorthand};
@@ -87,67 +87,37 @@ fn event_of(
     machine: &Machine,
     event: &LineEvent,
 ) -> Result<Event, NoMemory>
-    requires { HasPart machine.now.opening (actor_of event.now) }
+    requires { HasPart machine.now.opening (line_actor event.now) }
     ensures { IfOk result (λ made. made ≡ event_of (places_in places.now) machine.now event.now) }
 {
-    let made = match event {
+    let sent = |at: LineRef| message_ref(places, &at);
+    let made = match *event {
         LineEvent::Begin {
             lane,
-            operation,
+            ref operation,
             version,
         } => Event::Begin {
-            lane: *lane,
+            lane,
             operation: copy_operation(operation),
-            version: begin_version(machine, *lane, *version),
+            version: begin_version(machine, lane, version),
         },
-        LineEvent::Take { lane, at } => Event::Take {
-            lane: *lane,
-            at: message_ref(places, at),
-        },
-        LineEvent::Timeout { lane, op } => Event::Timeout {
-            lane: *lane,
-            op: *op,
-        },
-        LineEvent::Apply { host } => Event::Apply { host: *host },
-        LineEvent::Quiet { host, version } => Event::Quiet {
-            host: *host,
-            version: *version,
-        },
-        LineEvent::Serve { host, at } => Event::Serve {
-            host: *host,
-            at: message_ref(places, at),
-        },
-        LineEvent::Answer { host, at } => Event::Answer {
-            host: *host,
-            at: message_ref(places, at),
-        },
-        LineEvent::Clean { host, at } => Event::Clean {
-            host: *host,
-            at: message_ref(places, at),
-        },
-        LineEvent::Pull { host, session } => Event::Pull {
-            host: *host,
-            session: *session,
-        },
-        LineEvent::TakeChunk { host, at } => Event::TakeChunk {
-            host: *host,
-            at: message_ref(places, at),
-        },
-        LineEvent::Look { topo } => Event::Look { topo: *topo },
-        LineEvent::Ask { topo, host, what } => Event::Ask {
-            topo: *topo,
-            host: *host,
-            what: *what,
-        },
-        LineEvent::Hear { topo, at } => Event::Hear {
-            topo: *topo,
-            at: message_ref(places, at),
-        },
-        LineEvent::Propose { topo, command } => Event::Propose {
-            topo: *topo,
+        LineEvent::Take { lane, at } => Event::Take { lane, at: sent(at) },
+        LineEvent::Timeout { lane, op } => Event::Timeout { lane, op },
+        LineEvent::Apply { host } => Event::Apply { host },
+        LineEvent::Quiet { host, version } => Event::Quiet { host, version },
+        LineEvent::Serve { host, at } => Event::Serve { host, at: sent(at) },
+        LineEvent::Answer { host, at } => Event::Answer { host, at: sent(at) },
+        LineEvent::Clean { host, at } => Event::Clean { host, at: sent(at) },
+        LineEvent::Pull { host, session } => Event::Pull { host, session },
+        LineEvent::TakeChunk { host, at } => Event::TakeChunk { host, at: sent(at) },
+        LineEvent::Look { topo } => Event::Look { topo },
+        LineEvent::Ask { topo, host, what } => Event::Ask { topo, host, what },
+        LineEvent::Hear { topo, at } => Event::Hear { topo, at: sent(at) },
+        LineEvent::Propose { topo, ref command } => Event::Propose {
+            topo,
             command: copy_command(alloc, command)?,
         },
-        LineEvent::Restart { actor } => Event::Restart { actor: *actor },
+        LineEvent::Restart { actor } => Event::Restart { actor },
     };
     Ok(made)
 }
@@ -217,7 +187,7 @@ fn play_event_line(
     machine: &mut Machine,
     event: &LineEvent,
 ) -> Result<(), PlayError>
-    requires actor { HasPart machine.old.opening (actor_of event.now) }
+    requires actor { HasPart machine.old.opening (line_actor event.now) }
     requires fit { IsFitLine machine.old.opening (OneEvent event.now) }
     requires within { length machine.old.entries ≤ most_entries }
     ensures play { IsPlay result machine.new

@@ -7,7 +7,7 @@ ghost use Rattle.cluster_history.specs.Openings.{HasLane};
 ghost use Rattle.base_ids.specs.Replicas.{has_host, is_on};
 ghost use Rattle.topo_state.specs.State.{is_member};
 ghost use Rattle.schedule_data.specs.Playable.{HasOwner};
-ghost use Rattle.schedule_play.specs.Shorthands.{asked, do_moves, drain_host, drain_moves, each_host, fence_host, fence_moves, force_moves, has_decision, host_to_clean, is_concerned, is_placed_on, moves_of, proposed, raise_fence, readied, ready_host, step_moves, streamed, sync_moves, tidied};
+ghost use Rattle.schedule_play.specs.Shorthands.{ask_moves, do_moves, drain_host, drain_moves, each_host, fence_host, fence_moves, force_moves, has_decision, host_to_clean, is_concerned, is_placed_on, moves_of, propose_moves, raise_fence, readied, ready_host, step_moves, streamed, sync_moves, tidied};
 
 use crate::copies::{copy_command, copy_operation};
 use crate::moves::{Move, MoveList, Streaming, Target};
@@ -18,20 +18,13 @@ use cluster_machine::Machine;
 use schedule_data::Shorthand;
 use std::alloc::Global;
 use tablet_map::Tablet;
-use topo_state::{Command, Move as Relocation, Resize, Table, TopoState, move_of};
+use topo_state::{Command, Move as Relocation, Resize, Table, TopoState, is_member, move_of};
 
 /// Whether two names are one host's.
 fn same_host(a: HostId, b: HostId) -> bool
     ensures { result ≡ same_host a b }
 {
     a == b
-}
-
-/// Whether a host is a member.
-fn is_member(members: &[HostId], host: HostId) -> bool
-    ensures { result ≡ is_member members.now host }
-{
-    members.iter().any(|member| same_host(host, *member))
 }
 
 /// Whether a host is a member, or was one before.
@@ -92,7 +85,7 @@ fn decided_table(state: &TopoState, number: Session) -> Option<&Table>
 
 /// A coordinator asks a host, which answers, and hears that.
 fn add_asked(moves: &mut MoveList, topo: HostId, host: HostId, what: What) -> Result<(), NoMemory>
-    ensures { OnOk result (moves.new ≡ moves.old ++ asked topo host what) }
+    ensures { OnOk result (moves.new ≡ moves.old ++ ask_moves topo host what) }
 {
     moves.push(Move::Play(Event::Ask { topo, host, what }))?;
     moves.push(Move::AnswerNewest(host))?;
@@ -246,7 +239,7 @@ fn add_proposed(
     topo: HostId,
     command: &Command,
 ) -> Result<(), NoMemory>
-    ensures { OnOk result (moves.new ≡ moves.old ++ proposed opening.now topo command.now) }
+    ensures { OnOk result (moves.new ≡ moves.old ++ propose_moves opening.now topo command.now) }
 {
     let command = copy_command(alloc, command)?;
     moves.push(Move::Play(Event::Propose { topo, command }))?;

@@ -10,7 +10,7 @@ use Rattle.cluster_history.specs.declared.data.Event.TheVariants.{Answer, Apply,
 use Rattle.cluster_history.specs.declared.data.Operation.{Operation}
 use Rattle.cluster_history.specs.declared.data.Operation.TheVariants.{Read, Write}
 use Rattle.report_text.specs.Report.{cell_text}
-use Rattle.schedule_write.specs.Words.{host_word, lane_word, reference_word, replica_word, replica_words, resize_word, target_word}
+use Rattle.schedule_write.specs.Words.{spelt_host, spelt_lane, reference_word, replica_word, replica_words, spelt_resize, spelt_target}
 use Rattle.topo_state.specs.declared.command.Command.{Command}
 use Rattle.topo_state.specs.declared.command.Command.TheVariants.{Advance, CreateTable, FinalizeResize, Join, Leave, Resize, SetFence, Start}
 
@@ -21,46 +21,46 @@ operation_words (Write table token cell) =
 operation_words (Read table token) = codes "read" ∷ decimal table.0 ∷ signed_decimal token.value ∷ []
 
 -- what a coordinator asks
-abbrev pub what_words : What → List (List ℕ)
-what_words (DrainAsk version) = codes "drain" ∷ decimal version.0 ∷ []
-what_words (FenceAsk version) = codes "fence" ∷ decimal version.0 ∷ []
-what_words (DoneAsk session) = codes "done" ∷ decimal session.0 ∷ []
-what_words (CleanAsk session) = codes "clean" ∷ decimal session.0 ∷ []
-what_words (ReadyAsk session) = codes "ready" ∷ decimal session.0 ∷ []
+abbrev pub spelt_what : What → List (List ℕ)
+spelt_what (DrainAsk version) = codes "drain" ∷ decimal version.0 ∷ []
+spelt_what (FenceAsk version) = codes "fence" ∷ decimal version.0 ∷ []
+spelt_what (DoneAsk session) = codes "done" ∷ decimal session.0 ∷ []
+spelt_what (CleanAsk session) = codes "clean" ∷ decimal session.0 ∷ []
+spelt_what (ReadyAsk session) = codes "ready" ∷ decimal session.0 ∷ []
 
 -- a command
-abbrev pub command_words : Command → List (List ℕ)
-command_words (CreateTable table log2 replicas) =
+abbrev pub spelt_command : Command → List (List ℕ)
+spelt_command (CreateTable table log2 replicas) =
     codes "create" ∷ decimal table.0 ∷ decimal log2 ∷ replica_words replicas
-command_words (Start table tablet leaving pending) =
+spelt_command (Start table tablet leaving pending) =
     codes "start" ∷ decimal table.0 ∷ decimal tablet.0 ∷ replica_word leaving ∷ replica_word pending ∷ []
-command_words (Advance session to) = codes "advance" ∷ decimal session.0 ∷ target_word to ∷ []
-command_words (SetFence version) = codes "fence" ∷ decimal version.0 ∷ []
-command_words (Join host) = codes "join" ∷ host_word host ∷ []
-command_words (Leave host) = codes "leave" ∷ host_word host ∷ []
-command_words (Resize table kind) = codes "resize" ∷ decimal table.0 ∷ resize_word kind ∷ []
-command_words (FinalizeResize table number) = codes "finalize" ∷ decimal table.0 ∷ decimal number.0 ∷ []
+spelt_command (Advance session to) = codes "advance" ∷ decimal session.0 ∷ spelt_target to ∷ []
+spelt_command (SetFence version) = codes "fence" ∷ decimal version.0 ∷ []
+spelt_command (Join host) = codes "join" ∷ spelt_host host ∷ []
+spelt_command (Leave host) = codes "leave" ∷ spelt_host host ∷ []
+spelt_command (Resize table kind) = codes "resize" ∷ decimal table.0 ∷ spelt_resize kind ∷ []
+spelt_command (FinalizeResize table number) = codes "finalize" ∷ decimal table.0 ∷ decimal number.0 ∷ []
 
 abbrev pub actor_words : Actor → List (List ℕ)
-actor_words (ByHost host) = codes "host" ∷ host_word host ∷ []
-actor_words (ByLane lane) = codes "lane" ∷ lane_word lane ∷ []
-actor_words (ByTopo topo) = codes "topo" ∷ host_word topo ∷ []
+actor_words (ByHost host) = codes "host" ∷ spelt_host host ∷ []
+actor_words (ByLane lane) = codes "lane" ∷ spelt_lane lane ∷ []
+actor_words (ByTopo topo) = codes "topo" ∷ spelt_host topo ∷ []
 
 -- an event; a begin always with its version, and messages by the numbers of their events
 abbrev pub event_words : Event → List (List ℕ)
 event_words (Begin lane operation version) =
-    codes "begin" ∷ lane_word lane ∷ (operation_words operation ++ codes "at" ∷ decimal version.0 ∷ [])
-event_words (Take lane at) = codes "take" ∷ lane_word lane ∷ reference_word at ∷ []
-event_words (Timeout lane op) = codes "timeout" ∷ lane_word lane ∷ decimal op.0 ∷ []
-event_words (Apply host) = codes "apply" ∷ host_word host ∷ []
-event_words (Quiet host version) = codes "quiet" ∷ host_word host ∷ decimal version.0 ∷ []
-event_words (Serve host at) = codes "serve" ∷ host_word host ∷ reference_word at ∷ []
-event_words (Answer host at) = codes "answer" ∷ host_word host ∷ reference_word at ∷ []
-event_words (Clean host at) = codes "clean" ∷ host_word host ∷ reference_word at ∷ []
-event_words (Pull host session) = codes "pull" ∷ host_word host ∷ decimal session.0 ∷ []
-event_words (TakeChunk host at) = codes "chunk" ∷ host_word host ∷ reference_word at ∷ []
-event_words (Look topo) = codes "look" ∷ host_word topo ∷ []
-event_words (Ask topo host what) = codes "ask" ∷ host_word topo ∷ host_word host ∷ what_words what
-event_words (Hear topo at) = codes "hear" ∷ host_word topo ∷ reference_word at ∷ []
-event_words (Propose topo command) = codes "propose" ∷ host_word topo ∷ command_words command
+    codes "begin" ∷ spelt_lane lane ∷ (operation_words operation ++ codes "at" ∷ decimal version.0 ∷ [])
+event_words (Take lane at) = codes "take" ∷ spelt_lane lane ∷ reference_word at ∷ []
+event_words (Timeout lane op) = codes "timeout" ∷ spelt_lane lane ∷ decimal op.0 ∷ []
+event_words (Apply host) = codes "apply" ∷ spelt_host host ∷ []
+event_words (Quiet host version) = codes "quiet" ∷ spelt_host host ∷ decimal version.0 ∷ []
+event_words (Serve host at) = codes "serve" ∷ spelt_host host ∷ reference_word at ∷ []
+event_words (Answer host at) = codes "answer" ∷ spelt_host host ∷ reference_word at ∷ []
+event_words (Clean host at) = codes "clean" ∷ spelt_host host ∷ reference_word at ∷ []
+event_words (Pull host session) = codes "pull" ∷ spelt_host host ∷ decimal session.0 ∷ []
+event_words (TakeChunk host at) = codes "chunk" ∷ spelt_host host ∷ reference_word at ∷ []
+event_words (Look topo) = codes "look" ∷ spelt_host topo ∷ []
+event_words (Ask topo host what) = codes "ask" ∷ spelt_host topo ∷ spelt_host host ∷ spelt_what what
+event_words (Hear topo at) = codes "hear" ∷ spelt_host topo ∷ reference_word at ∷ []
+event_words (Propose topo command) = codes "propose" ∷ spelt_host topo ∷ spelt_command command
 event_words (Restart actor) = codes "restart" ∷ actor_words actor

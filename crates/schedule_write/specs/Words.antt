@@ -1,5 +1,5 @@
--- The words by which a written journal names things, and lines made of words. Numbers have no leading zeros, and letters
--- are lower-case.
+-- The words by which a written journal names things, and lines made of words. Numbers have no leading zeros, and
+-- letters are lower-case.
 use Rattle.std.specs.Fmt.{decimal}
 use Rattle.std.specs.Prelude.{List, None, Option, Some, [], codes, map, ℕ, ◌++◌, ◌∷◌}
 use Rattle.base_ids.specs.declared.ids.HostId.{HostId}
@@ -29,11 +29,11 @@ line_text words = joined words ++ codes "\n"
 
 -- ---- words
 
-abbrev pub host_word : HostId → List ℕ
-host_word host = decimal host.0
+abbrev pub spelt_host : HostId → List ℕ
+spelt_host host = decimal host.0
 
-abbrev pub lane_word : LaneId → List ℕ
-lane_word lane = decimal lane.host.0 ++ (codes "." ++ decimal lane.lane)
+abbrev pub spelt_lane : LaneId → List ℕ
+spelt_lane lane = decimal lane.host.0 ++ (codes "." ++ decimal lane.lane)
 
 abbrev pub replica_word : Replica → List ℕ
 replica_word replica = decimal replica.host.0 ++ (codes ":" ++ decimal replica.shard.0)
@@ -46,11 +46,11 @@ abbrev pub reference_word : MsgRef → List ℕ
 reference_word at = decimal at.event ++ (codes "." ++ decimal at.out)
 
 -- a stage, or the end of a transition
-abbrev pub target_word : Option Stage → List ℕ
-target_word None = codes "none"
-target_word (Some stage) = stage_word stage
+abbrev pub spelt_target : Option Stage → List ℕ
+spelt_target None = codes "none"
+spelt_target (Some stage) = stage_word stage
 
-abbrev pub resize_word : ResizeKind → List ℕ
-resize_word Split = codes "split"
-resize_word Merge = codes "merge"
-resize_word Keep = codes "keep"
+abbrev pub spelt_resize : ResizeKind → List ℕ
+spelt_resize Split = codes "split"
+spelt_resize Merge = codes "merge"
+spelt_resize Keep = codes "keep"

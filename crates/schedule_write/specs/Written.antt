@@ -1,5 +1,5 @@
--- The written form of a journal: a schedule text with a header that says its opening, and a line for each of its entries.
--- It has no shorthands, labels or comments.
+-- The written form of a journal: a schedule text with a header that says its opening, and a line for each of its
+-- entries. It has no shorthands, labels or comments.
 use Rattle.std.specs.Fmt.{decimal}
 use Rattle.std.specs.List.{flat_map}
 use Rattle.std.specs.Prelude.{Bool, List, [], codes, false, if◌then◌else◌, map, true, ℕ, ◌&&◌, ◌++◌, ◌+◌, ◌∷◌}
@@ -11,7 +11,7 @@ use Rattle.cluster_history.specs.declared.data.Entry.{Entry}
 use Rattle.cluster_history.specs.declared.data.Journal.{Journal}
 use Rattle.cluster_history.specs.declared.data.Opening.{Opening}
 use Rattle.schedule_write.specs.Events.{event_words}
-use Rattle.schedule_write.specs.Words.{host_word, line_text, replica_words}
+use Rattle.schedule_write.specs.Words.{spelt_host, line_text, replica_words}
 use Rattle.tablet_map.specs.Tablets.{tablet_in}
 use Rattle.tablet_map.specs.declared.tablet.Tablet.{Tablet}
 use Rattle.topo_state.specs.declared.data.Table.{Table}
@@ -25,8 +25,8 @@ same_replicas (a ∷ one) (b ∷ other) = same_replica a b && same_replicas one 
 same_replicas one other = false
 
 -- the line of a tablet, where its list is not the one that its table has
-abbrev pub tablet_line : TableId → List Replica → ℕ → Tablet → List (List (List ℕ))
-tablet_line id usual number tablet =
+abbrev pub spelt_tablet : TableId → List Replica → ℕ → Tablet → List (List (List ℕ))
+spelt_tablet id usual number tablet =
     if same_replicas usual tablet.replicas then []
     else (codes "tablet" ∷ decimal id.0 ∷ decimal number ∷ replica_words tablet.replicas) ∷ []
 
@@ -34,7 +34,7 @@ tablet_line id usual number tablet =
 abbrev pub tablet_lines : TableId → List Replica → ℕ → List Tablet → List (List (List ℕ))
 tablet_lines id usual number [] = []
 tablet_lines id usual number (tablet ∷ tablets) =
-    tablet_line id usual number tablet ++ tablet_lines id usual (number + 1) tablets
+    spelt_tablet id usual number tablet ++ tablet_lines id usual (number + 1) tablets
 
 -- a table with the replicas of its tablet 0, and its tablets that have other ones
 abbrev pub first_replicas : Table → List Replica
@@ -56,13 +56,13 @@ count_lines opening =
     ∷ (codes "shards" ∷ decimal opening.shards ∷ [])
     ∷ []
 
-abbrev pub members_line : List HostId → List (List ℕ)
-members_line members = codes "members" ∷ map host_word members
+abbrev pub spelt_members : List HostId → List (List ℕ)
+spelt_members members = codes "members" ∷ map spelt_host members
 
 abbrev pub header_lines : Opening → List (List (List ℕ))
 header_lines opening =
     count_lines opening
-    ++ members_line opening.members ∷ (flat_map table_lines opening.tables ++ (codes "go" ∷ []) ∷ [])
+    ++ spelt_members opening.members ∷ (flat_map table_lines opening.tables ++ (codes "go" ∷ []) ∷ [])
 
 abbrev pub entry_line : Entry → List (List ℕ)
 entry_line entry = event_words entry.event

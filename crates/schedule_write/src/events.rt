@@ -1,16 +1,19 @@
 // The lines of events.
 ghost use Rattle.std.specs.Fmt.{decimal};
 ghost use Rattle.std.specs.Prelude.{◌≡◌, ◌++◌, ◌∷◌, [], OnOk};
-ghost use Rattle.schedule_write.specs.Words.{spaced, joined, host_word, lane_word, reference_word};
-ghost use Rattle.schedule_write.specs.Events.{operation_words, what_words, command_words, actor_words, event_words};
+ghost use Rattle.cluster_history.specs.declared.data.Event.TheVariants.{Ask, Begin};
+ghost use Rattle.schedule_write.specs.Words.{spaced, joined, spelt_host, spelt_lane, reference_word};
+ghost use Rattle.schedule_write.specs.Events.{operation_words, spelt_what, spelt_command, actor_words, event_words};
+ghost use Rattle.topo_state.specs.declared.command.Command.TheVariants.{CreateTable, Start};
 
 use crate::words::{
     cell, host, lane, number, reference, replica, replicas, resize_word, signed, target_word, word,
 };
 use barrier_core::What;
-use base_ids::{Actor, HostId, LaneId, MsgRef, NoMemory};
+use base_ids::{Actor, HostId, LaneId, MsgRef, NoMemory, Replica, TableId, Version};
 use cluster_history::{Event, Operation};
 use std::alloc::Global;
+use token_ring::TabletId;
 use topo_state::Command;
 
 /// Adds what a client asks.
@@ -38,7 +41,7 @@ fn operation(alloc: Global, text: &mut Vec<u8>, operation: &Operation) -> Result
 
 /// Adds what a coordinator asks.
 fn what(text: &mut Vec<u8>, what: What) -> Result<(), NoMemory>
-    ensures { OnOk result (text.new.items ≡ text.old.items ++ spaced (what_words what)) }
+    ensures { OnOk result (text.new.items ≡ text.old.items ++ spaced (spelt_what what)) }
 {
     let (verb, asked) = match what {
         What::Drain(version) => ("drain", version.0),
@@ -51,33 +54,51 @@ fn what(text: &mut Vec<u8>, what: What) -> Result<(), NoMemory>
     number(text, asked)
 }
 
+/// Adds a command that creates a table.
+fn creation(text: &mut Vec<u8>, table: TableId, log2: u8, all: &[Replica]) -> Result<(), NoMemory>
+    ensures { OnOk result
+        (text.new.items ≡ text.old.items ++ spaced (spelt_command (CreateTable table log2 all.now))) }
+{
+    word(text, "create")?;
+    number(text, u64::from(table.0))?;
+    number(text, u64::from(log2))?;
+    replicas(text, all)
+}
+
+/// Adds a command that starts a move.
+fn start(
+    text: &mut Vec<u8>,
+    table: TableId,
+    tablet: TabletId,
+    leaving: Replica,
+    pending: Replica,
+) -> Result<(), NoMemory>
+    ensures { OnOk result
+        (text.new.items ≡ text.old.items ++ spaced (spelt_command (Start table tablet leaving pending))) }
+{
+    word(text, "start")?;
+    number(text, u64::from(table.0))?;
+    number(text, u64::from(tablet.0))?;
+    replica(text, leaving)?;
+    replica(text, pending)
+}
+
 /// Adds a command.
 fn command(text: &mut Vec<u8>, command: &Command) -> Result<(), NoMemory>
-    ensures { OnOk result (text.new.items ≡ text.old.items ++ spaced (command_words command.now)) }
+    ensures { OnOk result (text.new.items ≡ text.old.items ++ spaced (spelt_command command.now)) }
 {
     match command {
         Command::CreateTable {
             table,
             log2,
-            replicas: all,
-        } => {
-            word(text, "create")?;
-            number(text, u64::from(table.0))?;
-            number(text, u64::from(*log2))?;
-            replicas(text, all.as_slice())
-        }
+            replicas,
+        } => creation(text, *table, *log2, replicas.as_slice()),
         Command::Start {
             table,
             tablet,
             leaving,
             pending,
-        } => {
-            word(text, "start")?;
-            number(text, u64::from(table.0))?;
-            number(text, u64::from(tablet.0))?;
-            replica(text, *leaving)?;
-            replica(text, *pending)
-        }
+        } => start(text, *table, *tablet, *leaving, *pending),
         Command::Advance { session, to } => {
             word(text, "advance")?;
             number(text, session.0)?;
@@ -130,7 +151,7 @@ fn actor(text: &mut Vec<u8>, actor: Actor) -> Result<(), NoMemory>
 
 /// Begins a line with a verb and a host.
 fn of_host(text: &mut Vec<u8>, verb: &str, by: HostId) -> Result<(), NoMemory>
-    ensures { OnOk result (text.new.items ≡ text.old.items ++ joined (verb.now ∷ host_word by ∷ [])) }
+    ensures { OnOk result (text.new.items ≡ text.old.items ++ joined (verb.now ∷ spelt_host by ∷ [])) }
 {
     text.extend_from_slice(verb.as_bytes())?;
     host(text, by)
@@ -139,7 +160,7 @@ fn of_host(text: &mut Vec<u8>, verb: &str, by: HostId) -> Result<(), NoMemory>
 /// Begins a line with a verb, a host and a number.
 fn of_number(text: &mut Vec<u8>, verb: &str, by: HostId, asked: u64) -> Result<(), NoMemory>
     ensures { OnOk result
-        (text.new.items ≡ text.old.items ++ joined (verb.now ∷ host_word by ∷ decimal asked ∷ [])) }
+        (text.new.items ≡ text.old.items ++ joined (verb.now ∷ spelt_host by ∷ decimal asked ∷ [])) }
 {
     of_host(text, verb, by)?;
     number(text, asked)
@@ -148,7 +169,7 @@ fn of_number(text: &mut Vec<u8>, verb: &str, by: HostId, asked: u64) -> Result<(
 /// Begins a line with a verb, a host and a message.
 fn of_message(text: &mut Vec<u8>, verb: &str, by: HostId, at: MsgRef) -> Result<(), NoMemory>
     ensures { OnOk result
-        (text.new.items ≡ text.old.items ++ joined (verb.now ∷ host_word by ∷ reference_word at ∷ [])) }
+        (text.new.items ≡ text.old.items ++ joined (verb.now ∷ spelt_host by ∷ reference_word at ∷ [])) }
 {
     of_host(text, verb, by)?;
     reference(text, at)
@@ -156,10 +177,35 @@ fn of_message(text: &mut Vec<u8>, verb: &str, by: HostId, at: MsgRef) -> Result<
 
 /// Begins a line with a verb and a lane.
 fn of_lane(text: &mut Vec<u8>, verb: &str, by: LaneId) -> Result<(), NoMemory>
-    ensures { OnOk result (text.new.items ≡ text.old.items ++ joined (verb.now ∷ lane_word by ∷ [])) }
+    ensures { OnOk result (text.new.items ≡ text.old.items ++ joined (verb.now ∷ spelt_lane by ∷ [])) }
 {
     text.extend_from_slice(verb.as_bytes())?;
     lane(text, by)
+}
+
+/// Adds the words of a begin, which names its version.
+fn begin(
+    alloc: Global,
+    text: &mut Vec<u8>,
+    by: LaneId,
+    asked: &Operation,
+    version: Version,
+) -> Result<(), NoMemory>
+    ensures { OnOk result (text.new.items ≡ text.old.items ++ joined (event_words (Begin by asked.now version))) }
+{
+    of_lane(text, "begin", by)?;
+    operation(alloc, text, asked)?;
+    word(text, "at")?;
+    number(text, version.0)
+}
+
+/// Adds the words of a coordinator's question.
+fn ask(text: &mut Vec<u8>, by: HostId, asked: HostId, question: What) -> Result<(), NoMemory>
+    ensures { OnOk result (text.new.items ≡ text.old.items ++ joined (event_words (Ask by asked question))) }
+{
+    of_host(text, "ask", by)?;
+    host(text, asked)?;
+    what(text, question)
 }
 
 /// Adds the words of an event.
@@ -169,14 +215,9 @@ pub(crate) fn event(alloc: Global, text: &mut Vec<u8>, event: &Event) -> Result<
     match event {
         Event::Begin {
             lane,
-            operation: asked,
+            operation,
             version,
-        } => {
-            of_lane(text, "begin", *lane)?;
-            operation(alloc, text, asked)?;
-            word(text, "at")?;
-            number(text, version.0)
-        }
+        } => begin(alloc, text, *lane, operation, *version),
         Event::Take { lane, at } => {
             of_lane(text, "take", *lane)?;
             reference(text, *at)
@@ -193,15 +234,7 @@ pub(crate) fn event(alloc: Global, text: &mut Vec<u8>, event: &Event) -> Result<
         Event::Pull { host, session } => of_number(text, "pull", *host, session.0),
         Event::TakeChunk { host, at } => of_message(text, "chunk", *host, *at),
         Event::Look { topo } => of_host(text, "look", *topo),
-        Event::Ask {
-            topo,
-            host: asked,
-            what: question,
-        } => {
-            of_host(text, "ask", *topo)?;
-            host(text, *asked)?;
-            what(text, *question)
-        }
+        Event::Ask { topo, host, what } => ask(text, *topo, *host, *what),
         Event::Hear { topo, at } => of_message(text, "hear", *topo, *at),
         Event::Propose {
             topo,

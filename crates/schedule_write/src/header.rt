@@ -2,8 +2,8 @@
 ghost use Rattle.std.specs.Fmt.{decimal};
 ghost use Rattle.std.specs.List.{flat_map};
 ghost use Rattle.std.specs.Prelude.{◌≡◌, ◌++◌, ◌∷◌, [], OnOk, map};
-ghost use Rattle.schedule_write.specs.Words.{spaced, line_text, host_word};
-ghost use Rattle.schedule_write.specs.Written.{same_replicas, tablet_line, tablet_lines, table_lines, count_lines, members_line, header_lines};
+ghost use Rattle.schedule_write.specs.Words.{spaced, line_text, spelt_host};
+ghost use Rattle.schedule_write.specs.Written.{same_replicas, spelt_tablet, tablet_lines, table_lines, count_lines, spelt_members, header_lines};
 
 use crate::words::{host, number, replicas};
 use base_ids::{HostId, NoMemory, Replica, TableId};
@@ -28,7 +28,7 @@ fn tablet_line(
     tablet: &Tablet,
 ) -> Result<(), NoMemory>
     ensures { OnOk result
-        (text.new.items ≡ text.old.items ++ flat_map line_text (tablet_line id usual.now at tablet.now)) }
+        (text.new.items ≡ text.old.items ++ flat_map line_text (spelt_tablet id usual.now at tablet.now)) }
 {
     let own = tablet.replicas.as_slice();
     if same_replicas(usual, own) {
@@ -83,7 +83,7 @@ fn count_line(text: &mut Vec<u8>, verb: &str, count: u64) -> Result<(), NoMemory
 
 /// Adds hosts in order.
 fn hosts(text: &mut Vec<u8>, hosts: &[HostId]) -> Result<(), NoMemory>
-    ensures { OnOk result (text.new.items ≡ text.old.items ++ spaced (map host_word hosts.now)) }
+    ensures { OnOk result (text.new.items ≡ text.old.items ++ spaced (map spelt_host hosts.now)) }
 {
     for one in hosts {
         host(text, *one)?;
@@ -93,7 +93,7 @@ fn hosts(text: &mut Vec<u8>, hosts: &[HostId]) -> Result<(), NoMemory>
 
 /// Adds the line of the members.
 fn members_line(text: &mut Vec<u8>, members: &[HostId]) -> Result<(), NoMemory>
-    ensures { OnOk result (text.new.items ≡ text.old.items ++ line_text (members_line members.now)) }
+    ensures { OnOk result (text.new.items ≡ text.old.items ++ line_text (spelt_members members.now)) }
 {
     text.extend_from_slice(b"members")?;
     hosts(text, members)?;

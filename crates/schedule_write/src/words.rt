@@ -2,7 +2,7 @@
 ghost use Rattle.std.specs.Fmt.{decimal, signed_decimal};
 ghost use Rattle.std.specs.Prelude.{◌≡◌, ◌++◌, ◌∷◌, [], OnOk};
 ghost use Rattle.report_text.specs.Report.{cell_text};
-ghost use Rattle.schedule_write.specs.Words.{spaced, host_word, lane_word, replica_word, replica_words, reference_word, target_word, resize_word};
+ghost use Rattle.schedule_write.specs.Words.{spaced, spelt_host, spelt_lane, replica_word, replica_words, reference_word, spelt_target, spelt_resize};
 
 use base_ids::{HostId, LaneId, MsgRef, NoMemory, Replica};
 use cell_merge::Cell;
@@ -50,14 +50,14 @@ fn pair(text: &mut Vec<u8>, first: u64, separator: u8, second: u64) -> Result<()
 
 /// Adds a host.
 pub(crate) fn host(text: &mut Vec<u8>, host: HostId) -> Result<(), NoMemory>
-    ensures { OnOk result (text.new.items ≡ text.old.items ++ spaced (host_word host ∷ [])) }
+    ensures { OnOk result (text.new.items ≡ text.old.items ++ spaced (spelt_host host ∷ [])) }
 {
     number(text, u64::from(host.0))
 }
 
 /// Adds a lane.
 pub(crate) fn lane(text: &mut Vec<u8>, lane: LaneId) -> Result<(), NoMemory>
-    ensures { OnOk result (text.new.items ≡ text.old.items ++ spaced (lane_word lane ∷ [])) }
+    ensures { OnOk result (text.new.items ≡ text.old.items ++ spaced (spelt_lane lane ∷ [])) }
 {
     pair(text, u64::from(lane.host.0), b'.', u64::from(lane.lane))
 }
@@ -97,7 +97,7 @@ pub(crate) fn cell(alloc: Global, text: &mut Vec<u8>, cell: &Cell) -> Result<(),
 
 /// The word of a stage, or the one that ends a transition.
 pub(crate) fn target_word(to: Option<Stage>) -> &'static str
-    ensures { result.now ≡ target_word to }
+    ensures { result.now ≡ spelt_target to }
 {
     match to {
         Some(stage) => stage.word(),
@@ -107,7 +107,7 @@ pub(crate) fn target_word(to: Option<Stage>) -> &'static str
 
 /// The word of a decision to resize.
 pub(crate) fn resize_word(kind: ResizeKind) -> &'static str
-    ensures { result.now ≡ resize_word kind }
+    ensures { result.now ≡ spelt_resize kind }
 {
     match kind {
         ResizeKind::Split => "split",
