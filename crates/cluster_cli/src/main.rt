@@ -1,20 +1,12 @@
 //! The program: it reads its words and standard input, and writes to standard output.
 #![tactic(auto)]
 
-mod endings;
-mod opening;
-mod outcome;
-mod plays;
 mod process;
-mod program;
-mod status;
-mod texts;
 
 use base_ids::{Items, NoMemory};
+use cluster_program::{Status, Words, cluster_main};
 use fault_io::{CountedReader, CountedWriter, StdSink, StdSource};
 use process::{exit_code, words_after_name};
-use program::{Words, cluster_main};
-use status::Status;
 use std::env;
 use std::io::ErrorKind;
 use std::process::ExitCode;

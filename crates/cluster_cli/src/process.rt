@@ -3,9 +3,8 @@ ghost use Rattle.std.specs.Prelude.{◌≡◌, IfOk, map, drop, string_bytes};
 ghost use Rattle.std.specs.Process.{exit_status};
 ghost use Rattle.std.specs.Vec.Iter.{into_iter_items};
 
-use crate::outcome::Outcome;
-use crate::program::Words;
 use base_ids::{Items, NoMemory};
+use cluster_program::{Outcome, Words};
 use std::alloc::Global;
 use std::env::Args;
 use std::process::ExitCode;

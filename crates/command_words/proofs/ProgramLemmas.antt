@@ -1,11 +1,11 @@
 -- Which lists of words the program takes, and what is then found in them.
-use Rattle.std.proofs.Common.{◌≡◌, ◌∷◌, ◌∙◌, ◌==◌, ◌&&◌, ◌*◌, ◌+◌, ◌-◌, ◌<◌, ◌⊎◌, Bool, List, None, Option, Some, [], ap, ap₂, arith, codes, cond, drop, false, fold, inl, inr, length, nat_le, not, option_and_then, option_map, refl, subst, sym, true, unwrap_or, ℕ}
+use Rattle.std.proofs.Common.{◌≡◌, ◌∷◌, ◌∙◌, ◌==◌, ◌≤◌, ◌⊎◌, Bool, List, None, Option, Some, [], ap, ap₂, arith, codes, cond, drop, false, fold, inl, inr, length, not, option_and_then, option_map, refl, subst, sym, true, unwrap_or, ℕ}
 use Rattle.std.proofs.lemmas.Bool.Decides.{nat_tests}
 use Rattle.std.proofs.lemmas.Slice.Eq.{bytes_eq-Decides}
 use Rattle.std.proofs.lemmas.Str.{IsUtf8-from_ascii, is_utf8-from_IsUtf8}
 use Rattle.std.proofs.lemmas.Str.Ascii.{IsAscii-cons, IsAscii-nil}
 use Rattle.std.specs.Char.{encode_utf8}
-use Rattle.std.specs.List.{list_all}
+use Rattle.std.specs.List.{AllByRecursion, list_all}
 use Rattle.std.specs.Option.{option_map_or}
 use Rattle.std.specs.Prelude.{slice_get}
 use Rattle.std.specs.Str.{IsAscii, bytes_eq, chars, is_utf8}
@@ -25,9 +25,12 @@ use Rattle.clap.specs.Walk.{Held, Names, Row, Rule, Text, Walk, after_flag, afte
 use Rattle.clap.proofs.OnLiterals.{clap_on_literals}
 use Rattle.clap.proofs.WalkLemmas.{both, first_value-rows, walk_stopped}
 use Rattle.command_words.specs.Program.{command_found, command_named, is_plain, number_rule, plain_texts, program}
-use Rattle.command_words.specs.Words.{asked, digit_of, if_wide, number_of, unsigned_of, with_digits}
+use Rattle.command_words.specs.Words.{asked_command, if_wide, number_of}
 use Rattle.command_words.specs.declared.words.Command.{Command}
 use Rattle.command_words.specs.declared.words.Command.TheVariants.{Gen, Play}
+use Rattle.text_grammar.proofs.Numerals.{number_told}
+use Rattle.text_grammar.specs.Readings.{unsigned_of}
+use Rattle.text_grammar.specs.Words.{AreDigits, IsDigit}
 
 -- a step and the steps behind it pass only if both do
 first_passes : (a b : Kinds) → or_else a b ≡ [] → a ≡ []
@@ -157,7 +160,7 @@ gen_stops = refl
 
 -- `play` has no words
 play_read : (rest : List Text) → list_all is_plain rest ≡ true → fault_of program (codes "play" ∷ rest) ≡ []
-    → command_found (subcommand_of program (codes "play" ∷ rest)) ≡ asked (codes "play" ∷ rest)
+    → command_found (subcommand_of program (codes "play" ∷ rest)) ≡ asked_command (codes "play" ∷ rest)
 unfolding walk_fault
 play_read [] texts e = rw (finds play [] play_stops) refl
 play_read (word ∷ rest) texts e =
@@ -181,7 +184,7 @@ takes_number word unmarked turn =
 
 -- `gen` has one word, its number
 gen_read : (rest : List Text) → list_all is_plain rest ≡ true → fault_of program (codes "gen" ∷ rest) ≡ []
-    → command_found (subcommand_of program (codes "gen" ∷ rest)) ≡ asked (codes "gen" ∷ rest)
+    → command_found (subcommand_of program (codes "gen" ∷ rest)) ≡ asked_command (codes "gen" ∷ rest)
 unfolding walk_fault
 gen_read [] texts e = rw (finds gen [] gen_stops) refl
 gen_read (word ∷ []) texts e =
@@ -210,75 +213,61 @@ other_fails word rest no_play no_gen texts e =
 
 -- what is found where the program takes the words
 pub read_as_asked : (words : List Text) → list_all is_plain words ≡ true → fault_of program words ≡ []
-    → command_found (subcommand_of program words) ≡ asked words
+    → command_found (subcommand_of program words) ≡ asked_command words
 read_as_asked [] texts e = refl
 read_as_asked (word ∷ rest) texts e = by_play (bytes_eq (codes "play") word) refl
   where
     by_gen : (t : Bool) → bytes_eq (codes "gen") word ≡ t → bytes_eq (codes "play") word ≡ false
-        → command_found (subcommand_of program (word ∷ rest)) ≡ asked (word ∷ rest)
+        → command_found (subcommand_of program (word ∷ rest)) ≡ asked_command (word ∷ rest)
     by_gen true same no_play =
         let is : codes "gen" ≡ word = (bytes_eq-Decides _ _).0 same in
-        subst (λ w. command_found (subcommand_of program (w ∷ rest)) ≡ asked (w ∷ rest)) is
+        subst (λ w. command_found (subcommand_of program (w ∷ rest)) ≡ asked_command (w ∷ rest)) is
         (gen_read rest (both _ _ texts).1 (subst (λ w. fault_of program (w ∷ rest) ≡ []) (sym is) e))
     by_gen false same no_play = absurd (other_fails word rest no_play same texts e)
 
     by_play : (t : Bool) → bytes_eq (codes "play") word ≡ t
-        → command_found (subcommand_of program (word ∷ rest)) ≡ asked (word ∷ rest)
+        → command_found (subcommand_of program (word ∷ rest)) ≡ asked_command (word ∷ rest)
     by_play true same =
         let is : codes "play" ≡ word = (bytes_eq-Decides _ _).0 same in
-        subst (λ w. command_found (subcommand_of program (w ∷ rest)) ≡ asked (w ∷ rest)) is
+        subst (λ w. command_found (subcommand_of program (w ∷ rest)) ≡ asked_command (w ∷ rest)) is
         (play_read rest (both _ _ texts).1 (subst (λ w. fault_of program (w ∷ rest) ≡ []) (sym is) e))
     by_play false same = by_gen (bytes_eq (codes "gen") word) refl same
 
 -- ---- the words that ask
 
-digit_is_low : (byte digit : ℕ) → digit_of byte ≡ Some digit → (byte < 128) × (byte == 45 ≡ false)
-digit_is_low byte digit e = go (nat_le 48 byte && nat_le byte 57) refl e
-  where
-    go : (t : Bool) → (nat_le 48 byte && nat_le byte 57) ≡ t → cond t (Some (byte - 48)) None ≡ Some digit
-        → (byte < 128) × (byte == 45 ≡ false)
-    go true test e = (grind (arith, nat_tests), grind (arith, nat_tests))
-    go false test e = cc
-
-digits_are_ascii : (number : ℕ) (bytes : Text) (sum : ℕ) → with_digits number bytes ≡ Some sum → IsAscii bytes
-digits_are_ascii number [] sum e = IsAscii-nil
-digits_are_ascii number (byte ∷ bytes) sum e = go (digit_of byte) refl e (λ n. digits_are_ascii n bytes sum)
-  where
-    go : (o : Option ℕ) → digit_of byte ≡ o → option_and_then (λ digit. with_digits (number * 10 + digit) bytes) o ≡ Some sum
-        → ((n : ℕ) → with_digits n bytes ≡ Some sum → IsAscii bytes) → IsAscii (byte ∷ bytes)
-    go None same e rest = cc
-    go (Some digit) same e rest = IsAscii-cons byte bytes (digit_is_low byte digit same).0 (rest _ e)
-
-first_digit : (byte : ℕ) (bytes : Text) (sum : ℕ) → with_digits 0 (byte ∷ bytes) ≡ Some sum → byte == 45 ≡ false
-first_digit byte bytes sum e = go (digit_of byte) refl e
-  where
-    go : (o : Option ℕ) → digit_of byte ≡ o → option_and_then (λ digit. with_digits (0 * 10 + digit) bytes) o ≡ Some sum
-        → byte == 45 ≡ false
-    go None same e = cc
-    go (Some digit) same e = (digit_is_low byte digit same).1
-
 -- a word that begins with no hyphen
 abbrev IsNumberWord : Text → Type 0
 IsNumberWord word = (byte : ℕ) × (bytes : Text) × (word ≡ byte ∷ bytes) × (byte == 45 ≡ false) × IsAscii (byte ∷ bytes)
 
+digits_are_ascii : (bytes : Text) → AllByRecursion IsDigit bytes → IsAscii bytes
+digits_are_ascii [] digits = IsAscii-nil
+digits_are_ascii (byte ∷ bytes) digits =
+    let few : byte ≤ 57 = digits.0.1 in
+    IsAscii-cons byte bytes (omega (arith, few)) (digits_are_ascii bytes digits.1)
+
+no_hyphen_there : (byte : ℕ) → IsDigit byte → byte == 45 ≡ false
+no_hyphen_there byte digit =
+    let least : 48 ≤ byte = digit.0 in
+    grind (arith, nat_tests)
+
+spelt_word : (word : Text) (number : ℕ) → AreDigits word number → IsNumberWord word
+spelt_word [] number is = absurd (omega (arith, is.some))
+spelt_word (byte ∷ bytes) number is =
+    (byte, bytes, refl, no_hyphen_there byte is.digits.0, digits_are_ascii (byte ∷ bytes) is.digits)
+
 number_word : (word : Text) (number : ℕ) → number_of word ≡ Some number → IsNumberWord word
-unfolding number_of unsigned_of
-number_word [] number e = cc
-number_word (byte ∷ bytes) number e =
-    go (nat_le 1 (length (byte ∷ bytes)) && nat_le (length (byte ∷ bytes)) 20) (with_digits 0 (byte ∷ bytes)) refl e
+unfolding number_of
+number_word word number e = go (unsigned_of word) refl e
   where
-    go : (t : Bool) (o : Option ℕ) → with_digits 0 (byte ∷ bytes) ≡ o → option_and_then if_wide (cond t o None) ≡ Some number
-        → IsNumberWord (byte ∷ bytes)
-    go true (Some sum) same e =
-        (byte, bytes, refl, first_digit byte bytes sum same, digits_are_ascii 0 (byte ∷ bytes) sum same)
-    go true None same e = cc
-    go false o same e = cc
+    go : (o : Option ℕ) → unsigned_of word ≡ o → option_and_then if_wide o ≡ Some number → IsNumberWord word
+    go None same e = cc
+    go (Some read) same e = spelt_word word read (number_told word read same)
 
 abbrev IsNumbered : List Text → Type 0
 IsNumbered words = (word : Text) × (words ≡ codes "gen" ∷ word ∷ []) × IsNumberWord word
 
 -- what asks is `play` alone, or `gen` and a number
-asking : (words : List Text) (command : Command) → asked words ≡ Some command → (words ≡ codes "play" ∷ []) ⊎ IsNumbered words
+asking : (words : List Text) (command : Command) → asked_command words ≡ Some command → (words ≡ codes "play" ∷ []) ⊎ IsNumbered words
 asking [] command e = cc
 asking (word ∷ []) command e = go (bytes_eq word (codes "play")) refl e
   where
@@ -341,7 +330,7 @@ module _ (byte : ℕ) (bytes : Text) (no_hyphen : byte == 45 ≡ false) where
   gen_passes = ap (λ kinds. or_else kinds []) number_passes
 
 -- the program takes the words that ask
-asked_passes : (words : List Text) (command : Command) → asked words ≡ Some command → fault_of program words ≡ []
+asked_passes : (words : List Text) (command : Command) → asked_command words ≡ Some command → fault_of program words ≡ []
 asked_passes words command e = go (asking words command e)
   where
     go : (words ≡ codes "play" ∷ []) ⊎ IsNumbered words → fault_of program words ≡ []
@@ -365,7 +354,7 @@ number_plain : (byte : ℕ) (bytes : Text) → byte == 45 ≡ false → IsAscii 
 number_plain byte bytes no_hyphen ascii = rw (ascii_is_utf8 (byte ∷ bytes) ascii, no_hyphen) refl
 
 -- and they are plain text
-asked_plain : (words : List Text) (command : Command) → asked words ≡ Some command → list_all is_plain words ≡ true
+asked_plain : (words : List Text) (command : Command) → asked_command words ≡ Some command → list_all is_plain words ≡ true
 asked_plain words command e = go (asking words command e)
   where
     go : (words ≡ codes "play" ∷ []) ⊎ IsNumbered words → list_all is_plain words ≡ true
@@ -376,10 +365,10 @@ asked_plain words command e = go (asking words command e)
         ∙ rw (gen_plain, number_plain word.0 word.1 word.3 word.4) refl
 
 -- words that are not plain text ask nothing
-pub none_unread : (words : List Text) → plain_texts words ≡ None → asked words ≡ None
-none_unread words unread = go (asked words) refl
+pub none_unread : (words : List Text) → plain_texts words ≡ None → asked_command words ≡ None
+none_unread words unread = go (asked_command words) refl
   where
-    go : (o : Option Command) → asked words ≡ o → asked words ≡ None
+    go : (o : Option Command) → asked_command words ≡ o → asked_command words ≡ None
     go None same = same
     go (Some command) same =
         let plain = asked_plain words command same in
@@ -391,7 +380,7 @@ none_unread words unread = go (asked words) refl
 -- the matches of words that the program takes hold what the words ask
 pub found_is_asked : (app : App) (words : List Text) (matches : ArgMatches) → app ≡ program → list_all is_plain words ≡ true
     → (is_simple_and_free app ≡ true → fault_of app words ≡ []) → HasMatchesOf app words matches
-    → command_found (subcommand_rows_of matches) ≡ asked words
+    → command_found (subcommand_rows_of matches) ≡ asked_command words
 found_is_asked app words matches is texts takes has =
     let free : is_simple_and_free app ≡ true = ap is_simple_and_free is in
     let simple : is_simple app ≡ true = ap is_simple is in
@@ -401,10 +390,10 @@ found_is_asked app words matches is texts takes has =
 -- words that the program refuses ask nothing
 pub none_refused : (app : App) (words : List Text) (error : Error) → app ≡ program
     → (is_simple_and_free app ≡ true → HasKind (fault_of app words) error) → (kind_of error ≡ kind.OutOfMemory → ⊥)
-    → asked words ≡ None
-none_refused app words error is refused no_memory = go (asked words) refl
+    → asked_command words ≡ None
+none_refused app words error is refused no_memory = go (asked_command words) refl
   where
-    go : (o : Option Command) → asked words ≡ o → asked words ≡ None
+    go : (o : Option Command) → asked_command words ≡ o → asked_command words ≡ None
     go None same = same
     go (Some command) same =
         let passes : fault_of app words ≡ [] = ap (λ a. fault_of a words) is ∙ asked_passes words command same in

@@ -3,7 +3,7 @@ ghost use Rattle.std.specs.Prelude.{◌≡◌, IfOk, map, option_map, true};
 ghost use Rattle.std.specs.List.{list_all};
 ghost use Rattle.clap.specs.Words.{subcommand_rows_of};
 ghost use Rattle.command_words.specs.Program.{command_found, command_named, is_plain};
-ghost use Rattle.command_words.specs.Words.{asked};
+ghost use Rattle.command_words.specs.Words.{asked_command};
 
 use crate::numbers::number_of;
 use crate::program::program;
@@ -47,7 +47,7 @@ fn command_found(matches: &ArgMatches<'_>) -> Option<Command>
 /// The command that the texts ask for.
 fn read_texts<'a>(alloc: Global, texts: &'a [&'a str]) -> Result<Option<Command>, NoMemory>
     requires { list_all is_plain (map (λ text. text.now) texts.now) ≡ true }
-    ensures { IfOk result (λ command. command ≡ asked (map (λ text. text.now) texts.now)) }
+    ensures { IfOk result (λ command. command ≡ asked_command (map (λ text. text.now) texts.now)) }
 {
     let command = program(alloc)?;
     match command.try_get_matches_from(texts) {
@@ -66,7 +66,7 @@ fn read_texts<'a>(alloc: Global, texts: &'a [&'a str]) -> Result<Option<Command>
 /// text, and those that hold `--`, since it takes `gen -- 7` as it takes `gen 7`. It takes any word for the number that
 /// is no flag, such as an empty word or `-`, so the word is read as a number after.
 pub fn read_words(alloc: Global, words: &[Text]) -> Result<Option<Command>, NoMemory>
-    ensures { IfOk result (λ command. command ≡ asked words.now) }
+    ensures { IfOk result (λ command. command ≡ asked_command words.now) }
 {
     match plain_texts(alloc, words)? {
         Some(texts) => read_texts(alloc, texts.as_slice()),

@@ -1,0 +1,99 @@
+-- The lines that the program writes.
+use Rattle.std.specs.Fmt.{decimal}
+use Rattle.std.specs.List.{count_by}
+use Rattle.std.specs.Prelude.{Bool, List, None, [], codes, false, length, true, ℕ, ◌++◌, ◌∷◌}
+use Rattle.base_ids.specs.Rules.{event_rule_word, limit_word}
+use Rattle.base_ids.specs.declared.ids.Version.{Version}
+use Rattle.base_ids.specs.declared.rules.Appended.TheVariants.{Accepted}
+use Rattle.base_ids.specs.declared.rules.EventRule.{EventRule}
+use Rattle.base_ids.specs.declared.rules.LimitName.{LimitName}
+use Rattle.cluster_history.specs.Legal.{history_of}
+use Rattle.cluster_history.specs.Topology.{last_state, log_of}
+use Rattle.cluster_history.specs.declared.data.Entry.{Entry}
+use Rattle.cluster_history.specs.declared.data.Event.{Event}
+use Rattle.cluster_history.specs.declared.data.Event.TheVariants.{Propose}
+use Rattle.cluster_history.specs.declared.data.Journal.{Journal}
+use Rattle.cluster_history.specs.declared.data.Output.{Output}
+use Rattle.cluster_history.specs.declared.data.Output.TheVariants.{Proposed}
+use Rattle.report_text.specs.Report.{reply_count, report, report_lines}
+use Rattle.schedule_play.specs.Play.{Stop, AtLimit, AtRule}
+use Rattle.text_grammar.specs.Rules.{text_rule_word}
+use Rattle.text_grammar.specs.declared.faults.TextRule.{TextRule}
+use Rattle.topo_state.specs.declared.command.Command.TheVariants.{Advance}
+use Rattle.cluster_program.specs.declared.texts.Form.{Form}
+use Rattle.cluster_program.specs.declared.texts.Form.TheVariants.{Report, Summary}
+
+-- ---- where a text or a play stops
+
+abbrev pub usage_line : List ℕ
+usage_line = codes "usage: play | run | trace | gen N\n"
+
+abbrev pub read_fault_line : List ℕ
+read_fault_line = codes "read-fault\n"
+
+-- a line of the text breaks a rule
+abbrev pub refused_line : ℕ → TextRule → List ℕ
+refused_line line rule = codes "refused line " ++ (decimal line ++ (codes " " ++ (text_rule_word rule ++ codes "\n")))
+
+-- the event of a line is not enabled
+abbrev pub not_enabled_line : ℕ → EventRule → List ℕ
+not_enabled_line line rule =
+    codes "not-enabled line " ++ (decimal line ++ (codes " " ++ (event_rule_word rule ++ codes "\n")))
+
+-- a limit is passed
+abbrev pub limit_line : LimitName → List ℕ
+limit_line name = codes "limit " ++ (limit_word name ++ codes "\n")
+
+-- where a play stopped
+abbrev pub stop_line : Stop → List ℕ
+stop_line (AtRule line rule) = not_enabled_line line rule
+stop_line (AtLimit name) = limit_line name
+
+-- the report of a play that stopped: the lines so far, and where it stopped
+abbrev pub stopped_lines : Journal → Stop → List (List ℕ)
+stopped_lines journal stop = report_lines journal ++ stop_line stop ∷ []
+
+-- ---- the summary of a made schedule's play
+
+-- the log accepted the end of a move
+abbrev pub is_move_end : Event → List Output → Bool
+is_move_end (Propose topo (Advance session None)) (Proposed (Accepted index) ∷ outputs) = true
+is_move_end event outputs = false
+
+unfoldable pub ends_move : Entry → Bool
+ends_move entry = is_move_end entry.event entry.outputs
+
+-- how many moves came to their end
+abbrev pub moved_count : Journal → ℕ
+moved_count journal = count_by ends_move journal.entries
+
+-- the number of the schedule, and the counts of entries, replies and commands, the version and the fence of the log's
+-- state, and the count of moves
+abbrev pub counts_line : ℕ → ℕ → ℕ → ℕ → Version → Version → ℕ → List ℕ
+counts_line n events replies log version fence moved =
+    codes "gen "
+    ++ (decimal n
+    ++ (codes " events " ++ (decimal events
+    ++ (codes " replies " ++ (decimal replies
+    ++ (codes " log " ++ (decimal log
+    ++ (codes " version " ++ (decimal version.0
+    ++ (codes " fence " ++ (decimal fence.0
+    ++ (codes " moved " ++ (decimal moved ++ codes "\n")))))))))))))
+
+abbrev pub summary_line : ℕ → Journal → List ℕ
+summary_line n journal =
+    counts_line
+    n
+    (length journal.entries)
+    (reply_count journal.opening (history_of journal))
+    (length (log_of (history_of journal)))
+    (last_state journal.opening (history_of journal)).version
+    (last_state journal.opening (history_of journal)).fence
+    (moved_count journal)
+
+-- ---- a play that came to its end
+
+-- what is written of it
+abbrev pub form_lines : Form → Journal → List (List ℕ)
+form_lines Report journal = report journal
+form_lines (Summary n) journal = summary_line n journal ∷ []

@@ -1,0 +1,177 @@
+//! The commands of the program.
+ghost use Rattle.std.specs.Prelude.{◌≡◌, ℕ, ◌≤◌, ◌≢◌, ◌∷◌, [], List, IfSome, None, Some};
+ghost use Rattle.std.specs.List.{concat};
+ghost use Rattle.cluster_history.specs.Legal.{IsLegalRun};
+ghost use Rattle.command_words.specs.Words.{asked_command};
+ghost use Rattle.command_words.specs.declared.words.Command.TheVariants.{Gen, Play};
+ghost use Rattle.fault_io.specs.Counts.{Rose};
+ghost use Rattle.fault_io.specs.Written.{content_after};
+ghost use Rattle.overlap_law.specs.Headline.{IsHeadline};
+ghost use Rattle.report_text.specs.Report.{report};
+ghost use Rattle.cluster_program.specs.Endings.{IsCommandEnding, IsGenEnding, IsPlayEnding, usage_ending};
+ghost use Rattle.cluster_program.specs.Outcomes.{AnswersAs, CameAs, CameTo, IsAnswerAs, NoFault};
+ghost use Rattle.cluster_program.specs.Program.{IsComplete};
+ghost use Rattle.cluster_program.specs.Texts.{summary_line};
+
+use crate::endings::{not_read, say_usage};
+use crate::outcome::{Outcome, no_journal, starved};
+use crate::plays::play_text;
+use crate::texts::Form;
+use base_ids::{Items, NoMemory, Text};
+use command_words::{Command, read_words};
+use fault_io::{Sink, Source, read_all};
+use overlap_law::law_headline;
+use schedule_gen::schedule;
+use schedule_text::law_texts_are_read;
+use std::alloc::Global;
+
+/// The words of a command, after the program's name.
+pub type Words = Items<Text>;
+
+/// At most so many bytes are read.
+const INPUT_LIMIT: usize = 4194304;
+
+/// Reads a schedule, plays it and writes its report. How it ends is a function of the text, which is what the source
+/// tells as its content, or else the bytes that it gives: with status 0 and the report; 3 and the first line at fault
+/// with the rule that it breaks; 4, the report's lines so far, and the line whose event is not enabled with the first
+/// rule that it breaks; or 7 and the limit that is passed, behind the report's lines so far where it stops the play. A
+/// read fault gives 5, and wins over what the text says; a failed write gives 6 and leaves a part of what was to be
+/// written. Want of memory may give 8 while the text is read or played, and then some of the first bytes were written,
+/// and the journal has some of the first entries of the play.
+pub fn play_main<S: Source, K: Sink>(alloc: Global, source: &mut S, sink: &mut K) -> Outcome
+    // The journal that is kept is a legal run. In it no read returns less than a write of its key that was acknowledged
+    // before it began, and it returns none or a cell that such a write began with; a request is stale only below
+    // fences of as many hosts as leave too few, and given up only where fewer replicas than required had answered;
+    // and what clients saw is a run of the register machine.
+    ensures legal { IsLegalRun result.journal }
+    ensures headline { IsHeadline result.journal }
+
+    // What was to come of the text came, but for a read fault, a failed write and want of memory.
+    ensures told { IfSome (S.account source.old).left (λ text. AnswersAs (IsPlayEnding text) result
+        (S.account source.old) (S.account source.new) (K.account sink.old) (K.account sink.new)) }
+    ensures taken { (taken : List ℕ) × IsAnswerAs (IsPlayEnding taken) taken result
+        (S.account source.old) (S.account source.new) (K.account sink.old) (K.account sink.new) }
+    ensures complete { IsComplete result
+        (S.account source.old) (S.account source.new) (K.account sink.old) (K.account sink.new) }
+
+    // What follows of the statuses 0, 5 and 6.
+    ensures report { result.status ≡ 0 →
+        (K.account sink.new).content ≡ content_after (K.account sink.old).content (concat (report result.journal)) }
+    ensures ended { result.status ≡ 0 → IfSome (S.account source.new).left (λ rest. rest ≡ []) }
+    ensures quiet { result.status ≡ 0 → NoFault (S.account source.old) (S.account source.new)
+        × ((K.account sink.new).faults ≡ (K.account sink.old).faults) }
+    ensures read_fault { result.status ≡ 5 → Rose (S.account source.old).faults (S.account source.new).faults }
+    ensures write_fault { result.status ≡ 6 → Rose (K.account sink.old).faults (K.account sink.new).faults }
+    ensures read_later { (S.account source.old).faults ≤ (S.account source.new).faults }
+    ensures write_later { (K.account sink.old).faults ≤ (K.account sink.new).faults }
+{
+    law_texts_are_read();
+    match read_all(alloc, source, INPUT_LIMIT) {
+        Ok(bytes) => {
+            let outcome = play_text(alloc, Form::Report, bytes.as_slice(), sink);
+            law_headline(&outcome.journal);
+            outcome
+        }
+        Err(error) => {
+            let outcome = not_read(alloc, error, sink);
+            law_headline(&outcome.journal);
+            outcome
+        }
+    }
+}
+
+/// Makes the schedule of a number, plays it, and writes one line of counts. How it ends is a function of the number, as
+/// `play_main` ends on that text, but for the line in place of the report; nothing is read.
+pub fn gen_main<K: Sink>(alloc: Global, n: u64, sink: &mut K) -> Outcome
+    // The journal that is kept is a legal run. In it no read returns less than a write of its key that was acknowledged
+    // before it began, and it returns none or a cell that such a write began with; a request is stale only below
+    // fences of as many hosts as leave too few, and given up only where fewer replicas than required had answered;
+    // and what clients saw is a run of the register machine.
+    ensures legal { IsLegalRun result.journal }
+    ensures headline { IsHeadline result.journal }
+
+    // What was to come of the number came, but for a failed write and want of memory.
+    ensures came { CameAs (IsGenEnding n) result (K.account sink.old) (K.account sink.new) }
+
+    // What follows of the statuses 0, 5 and 6.
+    ensures summary { result.status ≡ 0 →
+        (K.account sink.new).content ≡ content_after (K.account sink.old).content (summary_line n result.journal) }
+    ensures quiet { result.status ≡ 0 → (K.account sink.new).faults ≡ (K.account sink.old).faults }
+    ensures unread { result.status ≢ 5 }
+    ensures write_fault { result.status ≡ 6 → Rose (K.account sink.old).faults (K.account sink.new).faults }
+    ensures write_later { (K.account sink.old).faults ≤ (K.account sink.new).faults }
+{
+    law_texts_are_read();
+    match schedule(alloc, n) {
+        Ok(text) => {
+            let outcome = play_text(alloc, Form::Summary(n), text.as_slice(), sink);
+            law_headline(&outcome.journal);
+            outcome
+        }
+        Err(NoMemory) => {
+            let outcome = starved(no_journal(alloc));
+            law_headline(&outcome.journal);
+            outcome
+        }
+    }
+}
+
+/// Does what the words say: `play` is `play_main`, `gen N` is `gen_main`, and other words give the usage line and
+/// status 2. Only `play` reads.
+pub fn cluster_main<S: Source, K: Sink>(
+    alloc: Global,
+    words: &Words,
+    source: &mut S,
+    sink: &mut K,
+) -> Outcome
+    // The journal that is kept is a legal run. In it no read returns less than a write of its key that was acknowledged
+    // before it began, and it returns none or a cell that such a write began with; a request is stale only below
+    // fences of as many hosts as leave too few, and given up only where fewer replicas than required had answered;
+    // and what clients saw is a run of the register machine.
+    ensures legal { IsLegalRun result.journal }
+    ensures headline { IsHeadline result.journal }
+
+    // Words that are no command give the usage line, and nothing is read but by `play`.
+    ensures usage { asked_command words.now ≡ None →
+        CameTo usage_ending result (K.account sink.old) (K.account sink.new) }
+    ensures unread { asked_command words.now ≢ Some Play → S.account source.new ≡ S.account source.old }
+
+    // What was to come of the words and the text came, but for a read fault, a failed write and want of memory.
+    ensures told { IfSome (S.account source.old).left (λ text.
+        AnswersAs (IsCommandEnding (asked_command words.now) text) result
+        (S.account source.old) (S.account source.new) (K.account sink.old) (K.account sink.new)) }
+    ensures taken { (taken : List ℕ) × IsAnswerAs (IsCommandEnding (asked_command words.now) taken) taken result
+        (S.account source.old) (S.account source.new) (K.account sink.old) (K.account sink.new) }
+    ensures complete { asked_command words.now ≡ Some Play → IsComplete result
+        (S.account source.old) (S.account source.new) (K.account sink.old) (K.account sink.new) }
+
+    // What follows of the statuses 0, 5 and 6.
+    ensures report { asked_command words.now ≡ Some Play → result.status ≡ 0 →
+        (K.account sink.new).content ≡ content_after (K.account sink.old).content (concat (report result.journal)) }
+    ensures summary { (n : ℕ) → asked_command words.now ≡ Some (Gen n) → result.status ≡ 0 →
+        (K.account sink.new).content ≡ content_after (K.account sink.old).content (summary_line n result.journal) }
+    ensures ended { asked_command words.now ≡ Some Play → result.status ≡ 0 →
+        IfSome (S.account source.new).left (λ rest. rest ≡ []) }
+    ensures quiet { result.status ≡ 0 → NoFault (S.account source.old) (S.account source.new)
+        × ((K.account sink.new).faults ≡ (K.account sink.old).faults) }
+    ensures read_fault { result.status ≡ 5 → Rose (S.account source.old).faults (S.account source.new).faults }
+    ensures write_fault { result.status ≡ 6 → Rose (K.account sink.old).faults (K.account sink.new).faults }
+    ensures read_later { (S.account source.old).faults ≤ (S.account source.new).faults }
+    ensures write_later { (K.account sink.old).faults ≤ (K.account sink.new).faults }
+{
+    law_texts_are_read();
+    match read_words(alloc, words.as_slice()) {
+        Ok(Some(Command::Play)) => play_main(alloc, source, sink),
+        Ok(Some(Command::Gen(n))) => gen_main(alloc, n, sink),
+        Ok(None) => {
+            let outcome = say_usage(alloc, sink);
+            law_headline(&outcome.journal);
+            outcome
+        }
+        Err(NoMemory) => {
+            let outcome = starved(no_journal(alloc));
+            law_headline(&outcome.journal);
+            outcome
+        }
+    }
+}

@@ -1,0 +1,157 @@
+//! The lines that the program writes.
+ghost use Rattle.std.specs.Prelude.{◌≡◌, ◌++◌, ◌∷◌, [], IfOk};
+ghost use Rattle.report_text.specs.Report.{report_lines};
+ghost use Rattle.schedule_play.specs.Play.{AtLimit, AtRule};
+ghost use Rattle.cluster_program.specs.Texts.{counts_line, ends_move, form_lines, is_move_end, limit_line, moved_count, not_enabled_line, refused_line, stopped_lines, summary_line};
+
+use base_ids::{Appended, EventRule, Items, LimitName, Line, NoMemory};
+use cluster_history::{Entry, Event, Journal, Output};
+use report_text::{LineList, Tally, end_tally, lines, report_lines};
+use std::alloc::Global;
+use text_grammar::TextRule;
+use topo_state::Command;
+
+/// In which form a play that came to its end is told.
+#[derive(Clone, Copy, Debug, PartialEq, Eq)]
+pub enum Form {
+    /// Its report.
+    Report,
+    /// One line of counts, for the made schedule of this number.
+    Summary(u64),
+}
+
+/// The line that tells which rule a line of the text breaks.
+pub(crate) fn refused_line(alloc: Global, line: u64, rule: TextRule) -> Result<Line, NoMemory>
+    ensures { IfOk result (λ text. text ≡ refused_line line rule) }
+{
+    let rule = rule.word();
+    let text = format!(in alloc; "refused line {line} {rule}\n")?;
+    Ok(Items::from_vec(text.into_bytes()))
+}
+
+/// The line that tells which limit is passed.
+pub(crate) fn limit_line(alloc: Global, name: LimitName) -> Result<Line, NoMemory>
+    ensures { IfOk result (λ text. text ≡ limit_line name) }
+{
+    let name = name.word();
+    let text = format!(in alloc; "limit {name}\n")?;
+    Ok(Items::from_vec(text.into_bytes()))
+}
+
+/// The line that tells which rule the event of a line breaks.
+fn not_enabled_line(alloc: Global, line: u64, rule: EventRule) -> Result<Line, NoMemory>
+    ensures { IfOk result (λ text. text ≡ not_enabled_line line rule) }
+{
+    let rule = rule.word();
+    let text = format!(in alloc; "not-enabled line {line} {rule}\n")?;
+    Ok(Items::from_vec(text.into_bytes()))
+}
+
+/// The lines of the report so far, and a last one.
+fn lines_and(alloc: Global, journal: &Journal, last: Line) -> Result<LineList, NoMemory>
+    ensures { IfOk result (λ lines. lines ≡ report_lines journal.now ++ last ∷ []) }
+{
+    let mut lines = report_lines(alloc, journal)?;
+    lines.push(last)?;
+    Ok(lines)
+}
+
+/// The report of a play that stopped at an event that is not enabled.
+pub(crate) fn lines_to_rule(
+    alloc: Global,
+    journal: &Journal,
+    line: u64,
+    rule: EventRule,
+) -> Result<LineList, NoMemory>
+    ensures { IfOk result (λ lines. lines ≡ stopped_lines journal.now (AtRule line rule)) }
+{
+    let last = not_enabled_line(alloc, line, rule)?;
+    lines_and(alloc, journal, last)
+}
+
+/// The report of a play that stopped at a limit.
+pub(crate) fn lines_to_limit(
+    alloc: Global,
+    journal: &Journal,
+    name: LimitName,
+) -> Result<LineList, NoMemory>
+    ensures { IfOk result (λ lines. lines ≡ stopped_lines journal.now (AtLimit name)) }
+{
+    let last = limit_line(alloc, name)?;
+    lines_and(alloc, journal, last)
+}
+
+/// Whether the log accepted the end of a move by this entry.
+#[tactic(auto, unfolding(crate::specs::Texts::ends_move))]
+fn ends_move(entry: &Entry) -> bool
+    ensures { result ≡ ends_move entry.now }
+{
+    match (&entry.event, entry.outputs.as_slice()) {
+        (
+            Event::Propose {
+                command: Command::Advance { to: None, .. },
+                ..
+            },
+            [Output::Proposed(Appended::Accepted { .. }), ..],
+        ) => true,
+        _ => false,
+    }
+}
+
+/// How many moves came to their end.
+fn moved_count(journal: &Journal) -> usize
+    ensures { result ≡ moved_count journal.now }
+{
+    let mut moved = 0;
+    for entry in journal.entries.as_slice() {
+        if ends_move(entry) {
+            moved += 1;
+        }
+    }
+    moved
+}
+
+/// The line of these counts.
+fn counts_line(
+    alloc: Global,
+    n: u64,
+    events: usize,
+    tally: Tally,
+    moved: usize,
+) -> Result<Line, NoMemory>
+    ensures { IfOk result (λ text. text ≡
+        counts_line n events tally.replies tally.log tally.version tally.fence moved) }
+{
+    let replies = tally.replies;
+    let log = tally.log;
+    let version = tally.version.0;
+    let fence = tally.fence.0;
+    let text = format!(in alloc;
+        "gen {n} events {events} replies {replies} log {log} version {version} fence {fence} moved {moved}\n"
+    )?;
+    Ok(Items::from_vec(text.into_bytes()))
+}
+
+/// The line that sums up the play of the made schedule of this number.
+fn summary_line(alloc: Global, n: u64, journal: &Journal) -> Result<Line, NoMemory>
+    ensures { IfOk result (λ text. text ≡ summary_line n journal.now) }
+{
+    let tally = end_tally(alloc, journal)?;
+    let events = journal.entries.as_slice().len();
+    counts_line(alloc, n, events, tally, moved_count(journal))
+}
+
+/// What is written of a play that came to its end.
+pub(crate) fn form_lines(alloc: Global, form: Form, journal: &Journal) -> Result<LineList, NoMemory>
+    ensures { IfOk result (λ lines. lines ≡ form_lines form journal.now) }
+{
+    match form {
+        Form::Report => lines(alloc, journal),
+        Form::Summary(n) => {
+            let mut lines = Items::new(alloc);
+            let line = summary_line(alloc, n, journal)?;
+            lines.push(line)?;
+            Ok(lines)
+        }
+    }
+}
