@@ -13,13 +13,24 @@ ghost use Rattle.cluster_machine.specs.Inputs.{proposes_input};
 
 use crate::outputs::{add, add_host_outputs, add_lane_outputs, add_topo_outputs, most_outputs};
 use base_ids::{HostId, Items, NoMemory};
-use cluster_history::{Entry, EntryList, Event, Message, Operation, Output};
+use cluster_history::{Entry, EntryList, Event, Message, Operation, Output, OutputList};
 use host_core::{HostCore, HostInput};
 use lane_core::{LaneCore, LaneInput};
 use run_store::RunStore;
 use std::alloc::Global;
 use std::mem;
 use topo_coord::{TopoCore, TopoInput};
+
+/// The outputs as an entry keeps them: where there are none, no memory is kept for any.
+fn kept(alloc: Global, outputs: Vec<Output>) -> OutputList
+    ensures { result ≡ outputs.items }
+{
+    if outputs.is_empty() {
+        Items::new(alloc)
+    } else {
+        Items::from_vec(outputs)
+    }
+}
 
 /// A host plays its event, and the entry goes behind the others.
 fn host_entry(
@@ -43,7 +54,7 @@ fn host_entry(
     let prepared = core.prepare(input)?;
     let out = core.settle(prepared);
     add_host_outputs(&mut outputs, host, out);
-    let outputs = Items::from_vec(outputs);
+    let outputs = kept(alloc, outputs);
     add(entries, Entry { event, outputs });
     Ok(())
 }
@@ -93,7 +104,7 @@ fn lane_entry(
     let prepared = core.prepare(input)?;
     let out = core.settle(prepared);
     add_lane_outputs(&mut outputs, out);
-    let outputs = Items::from_vec(outputs);
+    let outputs = kept(alloc, outputs);
     add(entries, Entry { event, outputs });
     Ok(())
 }
@@ -143,7 +154,7 @@ fn topo_entry(
     let prepared = core.prepare(input)?;
     let out = core.settle(prepared);
     add_topo_outputs(&mut outputs, out);
-    let outputs = Items::from_vec(outputs);
+    let outputs = kept(alloc, outputs);
     add(entries, Entry { event, outputs });
     Ok(())
 }

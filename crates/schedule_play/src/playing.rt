@@ -8,7 +8,7 @@ ghost use Rattle.schedule_data.specs.declared.data.LineAct.TheVariants.{Event as
 ghost use Rattle.schedule_play.specs.Fits.{AreFit, IsFitPlay};
 ghost use Rattle.schedule_play.specs.Play.{IsEventPlay, IsPlay, begin_version, event_of, message_ref, places_after, places_in, played, played_act, played_by, played_shorthand};
 
-use crate::copies::{copy_command, copy_operation};
+use crate::copies::copy_operation;
 use crate::moves::{MoveList, next};
 use crate::shorthands::moves_of;
 use base_ids::{EventRule, Items, LaneId, LimitName, MsgRef, NoMemory, Version};
@@ -115,7 +115,7 @@ fn event_of(
         LineEvent::Hear { topo, at } => Event::Hear { topo, at: sent(at) },
         LineEvent::Propose { topo, ref command } => Event::Propose {
             topo,
-            command: copy_command(alloc, command)?,
+            command: command.clone_in(alloc)?,
         },
         LineEvent::Restart { actor } => Event::Restart { actor },
     };

@@ -9,7 +9,7 @@ ghost use Rattle.topo_state.specs.State.{is_member};
 ghost use Rattle.schedule_data.specs.Playable.{HasOwner};
 ghost use Rattle.schedule_play.specs.Shorthands.{ask_moves, do_moves, drain_host, drain_moves, each_host, fence_host, fence_moves, force_moves, has_decision, host_to_clean, is_concerned, is_placed_on, moves_of, propose_moves, raise_fence, readied, ready_host, step_moves, streamed, sync_moves, tidied};
 
-use crate::copies::{copy_command, copy_operation};
+use crate::copies::copy_operation;
 use crate::moves::{Move, MoveList, Streaming, Target};
 use barrier_core::What;
 use base_ids::{HostId, Items, LaneId, NoMemory, Replica, Session};
@@ -241,7 +241,7 @@ fn add_proposed(
 ) -> Result<(), NoMemory>
     ensures { OnOk result (moves.new ≡ moves.old ++ propose_moves opening.now topo command.now) }
 {
-    let command = copy_command(alloc, command)?;
+    let command = command.clone_in(alloc)?;
     moves.push(Move::Play(Event::Propose { topo, command }))?;
     add_sync(moves, opening)
 }
