@@ -13,6 +13,3 @@ mod texts;
 pub use outcome::Outcome;
 pub use program::{Words, cluster_main, gen_main, play_main};
 pub use status::Status;
-
-#[cfg(test)]
-mod tests;

@@ -7,6 +7,3 @@ mod texts;
 mod words;
 
 pub use words::{Command, read_words};
-
-#[cfg(test)]
-mod tests;

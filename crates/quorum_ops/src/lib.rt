@@ -13,6 +13,3 @@ pub use laws::{decision_laws, idle_laws};
 pub use read_op::ReadOp;
 pub use taking::Taking;
 pub use write_op::WriteOp;
-
-#[cfg(test)]
-mod tests;

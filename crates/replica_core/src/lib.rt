@@ -7,6 +7,3 @@ mod serving;
 
 pub use cleanup::{Cleanup, cleanup_of, serve_cleanup};
 pub use serving::{serve_read, serve_write, write_answer};
-
-#[cfg(test)]
-mod tests;

@@ -14,6 +14,3 @@ pub use laws::{law_one_list, law_outside, law_range};
 pub use putting::{put_all, put_one};
 pub use store::{Chunk, Store, Stored, StoredList};
 pub use vec_store::VecStore;
-
-#[cfg(test)]
-mod tests;

@@ -8,6 +8,3 @@ mod texts;
 
 pub use report::{LineList, Tally, end_tally, lines, report_lines};
 pub use texts::cell_text;
-
-#[cfg(test)]
-mod tests;

@@ -10,6 +10,3 @@ mod table;
 mod tables;
 
 pub use store::RunStore;
-
-#[cfg(test)]
-mod tests;

@@ -39,6 +39,3 @@ pub fn schedule(alloc: Global, n: u64) -> Result<Vec<u8>, NoMemory>
     }
     Ok(text.into_bytes())
 }
-
-#[cfg(test)]
-mod tests;

@@ -10,6 +10,3 @@ mod state;
 pub use errors::ParseError;
 pub use laws::{law_texts_are_read, law_texts_say_one_schedule};
 pub use reader::parse;
-
-#[cfg(test)]
-mod tests;

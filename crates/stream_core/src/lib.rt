@@ -10,6 +10,3 @@ pub use data::{ChunkAsk, ChunkMsg};
 pub use laws::{law_chunk, law_passed};
 pub use pull::{Pull, Took};
 pub use serve::serve_chunk;
-
-#[cfg(test)]
-mod tests;

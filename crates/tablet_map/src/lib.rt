@@ -14,6 +14,3 @@ pub use laws::{
 };
 pub use map::TabletMap;
 pub use tablet::{Tablet, Transition};
-
-#[cfg(test)]
-mod tests;

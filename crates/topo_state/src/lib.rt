@@ -19,6 +19,3 @@ pub use moves::{Move, has_split, move_of, split_table};
 pub use replicas::is_member;
 pub use state::TopoState;
 pub use tables::{table_in, tablet_count};
-
-#[cfg(test)]
-mod tests;

@@ -1,4 +1,4 @@
-use super::*;
+use tablet_map::{MergeError, SplitError, TabletMap};
 use base_ids::{HostId, Replica, Session, ShardId};
 use stage_graph::Stage;
 use std::test::Fail;

@@ -1,4 +1,4 @@
-use super::*;
+use stream_core::{Pull, Took, serve_chunk};
 use base_ids::{HostId, Session, TableId};
 use cell_merge::{Body, Cell};
 use replica_store::{Store, VecStore};

@@ -1,4 +1,4 @@
-use super::*;
+use register_model::{ClientEvent, Key, Request, check};
 use base_ids::{HostId, LaneId, OpId, TableId};
 use cell_merge::{Body, Bytes64, Cell};
 use std::test::Fail;

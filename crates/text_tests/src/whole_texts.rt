@@ -1,5 +1,5 @@
 // What texts say, and where they are first at fault.
-use crate::{ParseError, parse};
+use schedule_text::{ParseError, parse};
 use base_ids::LimitName;
 use std::alloc::Global;
 use std::test::Fail;

@@ -1,7 +1,7 @@
 ghost use Rattle.std.specs.Prelude.{◌≤◌, IsTrue, length};
 ghost use Rattle.topo_state.specs.Rules.{IsFit};
 
-use super::*;
+use topo_state::{Command, Resize, ResizeKind, Rule, TopoState};
 use base_ids::{HostId, Items, NoMemory, Replica, ReplicaList, Session, ShardId, TableId, Version};
 use stage_graph::Stage;
 use std::alloc::Global;

@@ -1,4 +1,4 @@
-use crate::write;
+use schedule_write::write;
 use barrier_core::What;
 use base_ids::{
     Actor, HostId, Items, LaneId, MsgRef, NoMemory, OpId, Replica, ReplicaList, Session, ShardId,

@@ -1,4 +1,4 @@
-use super::*;
+use run_store::RunStore;
 use base_ids::TableId;
 use cell_merge::{Body, Cell};
 use replica_store::{Store, VecStore, gather};

@@ -1,4 +1,4 @@
-use super::*;
+use replica_core::{serve_read, serve_write};
 use base_ids::{HostId, LaneId, OpId, Replica, ShardId, TableId, Version};
 use cell_merge::{Body, Cell};
 use quorum_ops::{ReadAsk, Said, WriteAsk};

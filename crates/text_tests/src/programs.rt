@@ -1,6 +1,6 @@
 ghost use Rattle.std.specs.Prelude.{◌<◌};
 
-use super::*;
+use cluster_program::{Words, cluster_main, gen_main, play_main};
 use base_ids::{Items, NoMemory};
 use fault_io::{MemorySink, MemorySource};
 use report_text::report_lines;

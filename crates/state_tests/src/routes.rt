@@ -1,7 +1,7 @@
 ghost use Rattle.std.specs.Prelude.{◌≤◌, IsTrue};
 ghost use Rattle.topo_state.specs.Rules.{IsFit};
 
-use super::*;
+use meta_snap::Snapshot;
 use base_ids::{HostId, Items, NoMemory, Replica, ReplicaList, Session, ShardId, TableId};
 use stage_graph::Stage;
 use std::alloc::Global;

@@ -1,4 +1,4 @@
-use super::*;
+use replica_store::{Store, VecStore, gather};
 use base_ids::TableId;
 use cell_merge::{Body, Bytes64, Cell};
 use std::test::Fail;

@@ -1,4 +1,4 @@
-use super::*;
+use schedule_gen::schedule;
 use std::test::Fail;
 
 // The first lines of the schedule of 7, with a write, a read, a deletion, a start and a step of a move.

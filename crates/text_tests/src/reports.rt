@@ -1,4 +1,4 @@
-use crate::{lines, report_lines};
+use report_text::{lines, report_lines};
 use barrier_core::{Fact, What};
 use base_ids::{
     Appended, HostId, Items, LaneId, MsgRef, NoMemory, OpId, Session, StateId, Version,

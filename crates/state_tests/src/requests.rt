@@ -1,6 +1,6 @@
 ghost use Rattle.std.specs.Prelude.{◌≡◌};
 
-use super::*;
+use quorum_ops::{Answer, ReadAsk, ReadOp, Reply, Said, Taking, WriteAsk, WriteOp};
 use base_ids::{HostId, LaneId, OpId, Replica, ShardId, TableId, Version};
 use cell_merge::{Body, Bytes64, Cell};
 use std::test::Fail;

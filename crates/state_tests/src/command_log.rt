@@ -1,6 +1,6 @@
 ghost use Rattle.topo_state.specs.Rules.{IsFit};
 
-use super::*;
+use group0_log::Log;
 use base_ids::{Appended, HostId, Items, NoMemory, StateId, Version};
 use shared_value::Shared;
 use std::alloc::Global;

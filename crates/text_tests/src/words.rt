@@ -1,4 +1,4 @@
-use super::*;
+use command_words::{Command, read_words};
 use base_ids::{Items, NoMemory, Text};
 use std::alloc::Global;
 use std::process::Abort;

@@ -1,5 +1,5 @@
 // What lines say, and what they are at fault in.
-use crate::line_act;
+use schedule_lines::line_act;
 use barrier_core::What;
 use base_ids::{HostId, LimitName, NoMemory, Version};
 use cell_merge::{Body, Bytes64};
