@@ -14,6 +14,3 @@ pub use items::{HostList, Items, Line, Text};
 pub use memory::NoMemory;
 pub use replicas::ReplicaList;
 pub use rules::{Appended, EventRule, LimitName};
-
-#[cfg(test)]
-mod tests;

@@ -8,6 +8,3 @@ mod cell;
 
 pub use bytes::Bytes64;
 pub use cell::{Body, Cell, merge, order_laws};
-
-#[cfg(test)]
-mod tests;

@@ -13,6 +13,3 @@ pub use memory::{MemorySink, MemorySource};
 pub use reading::{ReadError, Source, Taken, read_all};
 pub use standard::{StdSink, StdSource};
 pub use writing::{Placed, Sink, WriteFault, write_all};
-
-#[cfg(test)]
-mod tests;

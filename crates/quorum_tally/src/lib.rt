@@ -6,6 +6,3 @@
 mod tally;
 
 pub use tally::{Mark, Place, Standing, Tally, Verdict};
-
-#[cfg(test)]
-mod tests;

@@ -4,6 +4,3 @@
 mod shared;
 
 pub use shared::{Shared, Shared as Arc};
-
-#[cfg(test)]
-mod tests;

@@ -1,7 +1,7 @@
-use run_store::RunStore;
 use base_ids::TableId;
 use cell_merge::{Body, Cell};
 use replica_store::{Store, VecStore, gather};
+use run_store::RunStore;
 use std::test::Fail;
 use token_ring::{Token, TokenRange};
 

@@ -1,7 +1,7 @@
 ghost use Rattle.topo_state.specs.Rules.{IsFit};
 
-use group0_log::Log;
 use base_ids::{Appended, HostId, Items, NoMemory, StateId, Version};
+use group0_log::Log;
 use shared_value::Shared;
 use std::alloc::Global;
 use std::test::Fail;

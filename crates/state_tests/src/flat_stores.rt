@@ -1,6 +1,6 @@
-use replica_store::{Store, VecStore, gather};
 use base_ids::TableId;
 use cell_merge::{Body, Bytes64, Cell};
+use replica_store::{Store, VecStore, gather};
 use std::test::Fail;
 use token_ring::{Token, TokenRange};
 

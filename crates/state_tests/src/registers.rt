@@ -1,6 +1,6 @@
-use register_model::{ClientEvent, Key, Request, check};
 use base_ids::{HostId, LaneId, OpId, TableId};
 use cell_merge::{Body, Bytes64, Cell};
+use register_model::{ClientEvent, Key, Request, check};
 use std::test::Fail;
 use token_ring::Token;
 

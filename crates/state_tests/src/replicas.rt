@@ -1,7 +1,7 @@
-use replica_core::{serve_read, serve_write};
 use base_ids::{HostId, LaneId, OpId, Replica, ShardId, TableId, Version};
 use cell_merge::{Body, Cell};
 use quorum_ops::{ReadAsk, Said, WriteAsk};
+use replica_core::{serve_read, serve_write};
 use replica_store::{Store, VecStore};
 use std::test::Fail;
 use token_ring::Token;

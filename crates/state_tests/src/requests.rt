@@ -1,8 +1,8 @@
 ghost use Rattle.std.specs.Prelude.{◌≡◌};
 
-use quorum_ops::{Answer, ReadAsk, ReadOp, Reply, Said, Taking, WriteAsk, WriteOp};
 use base_ids::{HostId, LaneId, OpId, Replica, ShardId, TableId, Version};
 use cell_merge::{Body, Bytes64, Cell};
+use quorum_ops::{Answer, ReadAsk, ReadOp, Reply, Said, Taking, WriteAsk, WriteOp};
 use std::test::Fail;
 use token_ring::Token;
 

@@ -1,8 +1,8 @@
 ghost use Rattle.std.specs.Prelude.{◌≤◌, IsTrue};
 ghost use Rattle.topo_state.specs.Rules.{IsFit};
 
-use meta_snap::Snapshot;
 use base_ids::{HostId, Items, NoMemory, Replica, ReplicaList, Session, ShardId, TableId};
+use meta_snap::Snapshot;
 use stage_graph::Stage;
 use std::alloc::Global;
 use std::process::Abort;

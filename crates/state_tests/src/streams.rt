@@ -1,8 +1,8 @@
-use stream_core::{Pull, Took, serve_chunk};
 use base_ids::{HostId, Session, TableId};
 use cell_merge::{Body, Cell};
 use replica_store::{Store, VecStore};
 use std::test::Fail;
+use stream_core::{Pull, Took, serve_chunk};
 use token_ring::{Token, TokenRange};
 
 const TABLE: TableId = TableId(1);

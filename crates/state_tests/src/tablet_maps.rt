@@ -1,7 +1,7 @@
-use tablet_map::{MergeError, SplitError, TabletMap};
 use base_ids::{HostId, Replica, Session, ShardId};
 use stage_graph::Stage;
 use std::test::Fail;
+use tablet_map::{MergeError, SplitError, TabletMap};
 use token_ring::TabletId;
 
 const FIRST: Replica = Replica {

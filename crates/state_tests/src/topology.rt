@@ -1,12 +1,12 @@
 ghost use Rattle.std.specs.Prelude.{◌≤◌, IsTrue, length};
 ghost use Rattle.topo_state.specs.Rules.{IsFit};
 
-use topo_state::{Command, Resize, ResizeKind, Rule, TopoState};
 use base_ids::{HostId, Items, NoMemory, Replica, ReplicaList, Session, ShardId, TableId, Version};
 use stage_graph::Stage;
 use std::alloc::Global;
 use std::test::Fail;
 use token_ring::TabletId;
+use topo_state::{Command, Resize, ResizeKind, Rule, TopoState};
 
 /// A command and how it is judged.
 type Case = (Command, Result<(), Rule>);

@@ -1,10 +1,10 @@
 // What lines say, and what they are at fault in.
-use schedule_lines::line_act;
 use barrier_core::What;
 use base_ids::{HostId, LimitName, NoMemory, Version};
 use cell_merge::{Body, Bytes64};
 use cluster_history::Operation;
 use schedule_data::{LineAct, LineEvent, LineRef};
+use schedule_lines::line_act;
 use schedule_words::{Counts, Labels};
 use std::alloc::Global;
 use std::test::Fail;

@@ -1,7 +1,7 @@
 ghost use Rattle.std.specs.Prelude.{◌<◌};
 
-use cluster_program::{Words, cluster_main, gen_main, play_main};
 use base_ids::{Items, NoMemory};
+use cluster_program::{Words, cluster_main, gen_main, play_main};
 use fault_io::{MemorySink, MemorySource};
 use report_text::report_lines;
 use std::alloc::Global;

@@ -1,4 +1,3 @@
-use report_text::{lines, report_lines};
 use barrier_core::{Fact, What};
 use base_ids::{
     Appended, HostId, Items, LaneId, MsgRef, NoMemory, OpId, Session, StateId, Version,
@@ -6,6 +5,7 @@ use base_ids::{
 use cell_merge::{Body, Bytes64, Cell};
 use cluster_history::{Entry, Event, Journal, Message, Opening, Output};
 use quorum_ops::Reply;
+use report_text::{lines, report_lines};
 use stage_graph::Kind;
 use std::alloc::Global;
 use std::test::Fail;

@@ -1,6 +1,6 @@
 // What texts say, and where they are first at fault.
-use schedule_text::{ParseError, parse};
 use base_ids::LimitName;
+use schedule_text::{ParseError, parse};
 use std::alloc::Global;
 use std::test::Fail;
 use text_grammar::TextRule;

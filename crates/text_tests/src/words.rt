@@ -1,5 +1,5 @@
-use command_words::{Command, read_words};
 use base_ids::{Items, NoMemory, Text};
+use command_words::{Command, read_words};
 use std::alloc::Global;
 use std::process::Abort;
 use std::test::Fail;

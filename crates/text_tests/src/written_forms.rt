@@ -1,4 +1,3 @@
-use schedule_write::write;
 use barrier_core::What;
 use base_ids::{
     Actor, HostId, Items, LaneId, MsgRef, NoMemory, OpId, Replica, ReplicaList, Session, ShardId,
@@ -6,6 +5,7 @@ use base_ids::{
 };
 use cell_merge::{Body, Bytes64, Cell};
 use cluster_history::{Entry, Event, Journal, Opening, Operation};
+use schedule_write::write;
 use stage_graph::Stage;
 use std::alloc::Global;
 use std::test::Fail;

@@ -1,4 +1,4 @@
-use super::*;
+use base_ids::{HostId, HostList, Items, Replica, ReplicaList, ShardId};
 use std::test::Fail;
 
 #[test]

@@ -1,4 +1,4 @@
-use super::*;
+use cell_merge::{Body, Bytes64, Cell, merge};
 use std::cmp::Ordering;
 use std::test::Fail;
 

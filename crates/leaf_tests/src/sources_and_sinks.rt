@@ -1,4 +1,7 @@
-use super::*;
+use fault_io::{
+    CountedReader, CountedWriter, MemorySink, MemorySource, Placed, ReadError, Sink, Source,
+    StdSink, StdSource, Taken, WriteFault, read_all, write_all,
+};
 use std::alloc::{AllocError, Global};
 use std::io;
 use std::io::{ErrorKind, Read, Write};

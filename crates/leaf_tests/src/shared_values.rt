@@ -1,5 +1,5 @@
-use super::Shared;
 use base_ids::Session;
+use shared_value::Shared;
 use std::test::Fail;
 
 #[test]

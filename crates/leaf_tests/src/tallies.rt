@@ -1,5 +1,5 @@
-use super::*;
 use base_ids::{HostId, Replica, ShardId};
+use quorum_tally::{Mark, Tally, Verdict};
 
 const FIRST: Replica = Replica {
     host: HostId(0),
