@@ -135,6 +135,7 @@ pub fn cluster_main<S: Source, K: Sink>(
     ensures usage { asked_command words.now ≡ None →
         CameTo usage_ending result (K.account sink.old) (K.account sink.new) }
     ensures unread { asked_command words.now ≢ Some Play → S.account source.new ≡ S.account source.old }
+    ensures unread_by_gen { (n : ℕ) → asked_command words.now ≡ Some (Gen n) → result.status ≢ 5 }
 
     // What was to come of the words and the text came, but for a read fault, a failed write and want of memory.
     ensures told { IfSome (S.account source.old).left (λ text.

@@ -1,6 +1,6 @@
 -- Where a host lays the cells of a table into runs: one for each tablet when it applies the command that makes the
 -- table or resizes it, and one for each tablet to come when it tells that it is ready for a split, which a split that
--- is taken back leaves so. A table of the opening is not laid out before such a moment.
+-- is taken back leaves so. Before such a moment a table is as it was in the store that the host was given.
 use Rattle.std.specs.Prelude.{ℕ, ◌+◌, ◌≡◌, ◌⊎◌, ◌^◌, Bool, true, false, nat_lt, Option, Some, None, option_map, find, if◌then◌else◌}
 use Rattle.base_ids.specs.Names.{same_table}
 use Rattle.base_ids.specs.declared.ids.TableId.{TableId}

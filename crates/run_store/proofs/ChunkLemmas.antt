@@ -1,5 +1,5 @@
 -- The cells of a range among runs: those of each run, one after another.
-use Rattle.std.proofs.Common.{◌≡◌, ◌↔◌, ◌⊎◌, ℕ, zero, suc, ◌+◌, ◌-◌, ◌/◌, ◌<◌, ◌≤◌, ◌&&◌, nat_lt, Bool, true, false, IsTrue, Option, List, [], ◌∷◌, ◌++◌, length, take, drop, get_or, map, filter, refl, ap, sym, subst, ◌∙◌, arith, inl, inr, length-append, length-take, append-nil}
+use Rattle.std.proofs.Common.{◌≡◌, ◌↔◌, ◌⊎◌, ℕ, zero, suc, ◌+◌, ◌-◌, ◌/◌, ◌<◌, ◌≤◌, ◌≢◌, ◌==◌, ◌&&◌, nat_lt, Bool, true, false, IsTrue, Option, List, [], ◌∷◌, ◌++◌, length, take, drop, get_or, map, filter, refl, ap, sym, subst, ◌∙◌, arith, inl, inr, length-append, length-take, append-nil}
 use Rattle.std.proofs.lemmas.Bool.Decides.{nat_tests}
 use Rattle.std.proofs.lemmas.List.{map-append, take-append-drop, drop_more, take_more, take_all}
 use Rattle.std.proofs.lemmas.List.Elements.{filter-append}
@@ -11,7 +11,8 @@ use Rattle.replica_store.specs.declared.store.Stored.{Stored}
 use Rattle.replica_store.specs.Cells.{Cells, IsOrdered, rank, is_inside, is_above, range_cells}
 use Rattle.replica_store.specs.Columns.{start_of}
 use Rattle.replica_store.proofs.RankLemmas.{is_wanted-rank}
-use Rattle.run_store.specs.Runs.{Filled, of_table, run_cells, IsOfTablet, AreRuns, AreOrdered}
+use Rattle.run_store.specs.Runs.{Filled, of_table, run_cells, first_run_cells, IsOfTablet, AreRuns, AreOrdered}
+use Rattle.run_store.proofs.TabletLemmas.{one_tablet}
 use Rattle.run_store.proofs.GroupLemmas.{tablet_mono, lower_first, run_cells-append}
 
 abbrev is_wanted : TableId → TokenRange → Option Token → TableId × Stored → Bool
@@ -183,3 +184,83 @@ pub take_nothing : {X : Type 0} (n : ℕ) (xs : List X) → xs ≡ [] → [] ≡
 take_nothing zero xs none = refl
 take_nothing (suc n) [] none = refl
 take_nothing (suc n) (x ∷ xs) none = cc
+
+-- what is wanted of cells of one tablet is of that tablet
+wanted_own : (t : TableId) (range : TokenRange) (after : Option Token) (log2 tablet : ℕ) (stored : List Stored) → IsOfTablet log2 tablet (of_table t stored) → IsOfTablet log2 tablet (of_table t (range_cells (of_table t stored) t range after))
+wanted_own t range after log2 tablet [] own = tt
+wanted_own t range after log2 tablet (s ∷ rest) own =
+    elim (is_wanted t range after (t, s)) as (λ b. is_wanted t range after (t, s) ≡ b → IsOfTablet log2 tablet (of_table t (range_cells (of_table t (s ∷ rest)) t range after))) [
+      | true ↦ λ test. rw test (own.0, wanted_own t range after log2 tablet rest own.1)
+      | false ↦ λ test. rw test (wanted_own t range after log2 tablet rest own.1)
+    ] refl
+
+-- all cells of a tablet are kept where that tablet is looked for
+keep_own : (t : TableId) (log2 tablet sought : ℕ) (stored : List Stored) → sought ≡ tablet → IsOfTablet log2 tablet (of_table t stored) → filter (λ (s : Stored). tablet_at log2 s.token.value == sought) stored ≡ stored
+keep_own t log2 tablet sought [] same own = refl
+keep_own t log2 tablet sought (s ∷ rest) same own =
+    let here : (tablet_at log2 s.token.value == sought) ≡ true = grind (arith, nat_tests, own.0, same) in
+    rw here (ap (λ (ss : List Stored). s ∷ ss) (keep_own t log2 tablet sought rest same own.1))
+
+-- and none where another is looked for
+keep_none : (t : TableId) (log2 tablet sought : ℕ) (stored : List Stored) → sought < tablet → IsOfTablet log2 tablet (of_table t stored) → filter (λ (s : Stored). tablet_at log2 s.token.value == sought) stored ≡ []
+keep_none t log2 tablet sought [] apart own = refl
+keep_none t log2 tablet sought (s ∷ rest) apart own =
+    let there : (tablet_at log2 s.token.value == sought) ≡ false = grind (arith, nat_tests, own.0, apart) in
+    rw there (keep_none t log2 tablet sought rest apart own.1)
+
+-- nor of the runs of later tablets
+keep_later : (t : TableId) (range : TokenRange) (after : Option Token) (log2 first sought : ℕ) (runs : List Filled) → sought < first → AreRuns t log2 first runs → filter (λ (s : Stored). tablet_at log2 s.token.value == sought) (range_cells (run_cells t runs) t range after) ≡ []
+keep_later t range after log2 first sought [] lower are = refl
+keep_later t range after log2 first sought (run ∷ runs) lower are =
+    ap (filter (λ (s : Stored). tablet_at log2 s.token.value == sought)) (wanted-append t range after (of_table t run.stored) (run_cells t runs))
+    ∙ filter-append (λ (s : Stored). tablet_at log2 s.token.value == sought) (range_cells (of_table t run.stored) t range after) (range_cells (run_cells t runs) t range after)
+    ∙ rw (keep_none t log2 first sought (range_cells (of_table t run.stored) t range after) lower (wanted_own t range after log2 first run.stored are.0.own)) (keep_later t range after log2 (first + 1) sought runs (omega arith) are.1)
+
+-- the cells of the first one's run, where the later ones are of other tablets
+first_of_two : (t : TableId) (log2 tablet : ℕ) (xs ys : List Stored) → 0 < length xs → IsOfTablet log2 tablet (of_table t xs) → ((sought : ℕ) → sought ≡ tablet → filter (λ (s : Stored). tablet_at log2 s.token.value == sought) ys ≡ []) → first_run_cells log2 (xs ++ ys) ≡ xs
+first_of_two t log2 tablet [] ys some own none = absurd (omega arith)
+first_of_two t log2 tablet (x ∷ xs) ys some own none =
+    let sought = tablet_at log2 x.token.value in
+    filter-append (λ (s : Stored). tablet_at log2 s.token.value == sought) (x ∷ xs) ys
+    ∙ rw (keep_own t log2 tablet sought (x ∷ xs) own.0 own, none sought own.0) (append-nil (x ∷ xs))
+
+own_at : (t : TableId) (log2 first : ℕ) (runs : List Filled) (i : ℕ) (run : Filled) → AreRuns t log2 first runs → i < length runs → run ≡ get_or runs i run → IsOfTablet log2 (first + i) (of_table t run.stored)
+own_at t log2 first [] i run are within read = absurd (omega arith)
+own_at t log2 first (r ∷ runs) zero run are within read =
+    let e : first + 0 ≡ first = omega arith in
+    let P : Filled → Type 0 = λ x. IsOfTablet log2 first (of_table t x.stored) in
+    rw e (subst P (sym read) are.0.own)
+own_at t log2 first (r ∷ runs) (suc i) run are within read =
+    let e : first + suc i ≡ first + 1 + i = omega arith in
+    rw e (own_at t log2 (first + 1) runs i run are.1 (omega arith) read)
+
+-- what is wanted of the first run that has any is what is wanted of the first one's run
+pub first_run_is : (t : TableId) (range : TokenRange) (after : Option Token) (log2 first : ℕ) (runs : List Filled) (i : ℕ) (run : Filled) → AreRuns t log2 first runs → i < length runs → run ≡ get_or runs i run → range_cells (run_cells t (take i runs)) t range after ≡ [] → 0 < length (range_cells (of_table t run.stored) t range after) → first_run_cells log2 (range_cells (run_cells t runs) t range after) ≡ range_cells (of_table t run.stored) t range after
+first_run_is t range after log2 first runs i run are within read none some =
+    let own = wanted_own t range after log2 (first + i) run.stored (own_at t log2 first runs i run are within read) in
+    let later : (sought : ℕ) → sought ≡ first + i → filter (λ (s : Stored). tablet_at log2 s.token.value == sought) (range_cells (run_cells t (drop (i + 1) runs)) t range after) ≡ [] =
+    λ sought same. keep_later t range after log2 (first + (i + 1)) sought (drop (i + 1) runs) (omega arith) (AreRuns-drop t log2 first (i + 1) runs are) in
+    ap (first_run_cells log2) (wanted_split t range after runs i run within read none)
+    ∙ first_of_two t log2 (first + i) (range_cells (of_table t run.stored) t range after) (range_cells (run_cells t (drop (i + 1) runs)) t range after) some own later
+
+pub AreRuns-take : (t : TableId) (log2 first n : ℕ) (runs : List Filled) → AreRuns t log2 first runs → AreRuns t log2 first (take n runs)
+AreRuns-take t log2 first zero runs are = tt
+AreRuns-take t log2 first (suc n) [] are = tt
+AreRuns-take t log2 first (suc n) (run ∷ runs) are = (are.0, AreRuns-take t log2 (first + 1) n runs are.1)
+
+-- the runs between two of them
+pub AreRuns-between : (t : TableId) (log2 from n : ℕ) (runs : List Filled) → AreRuns t log2 0 runs → AreRuns t log2 (0 + from) (take n (drop from runs))
+AreRuns-between t log2 from n runs are = AreRuns-take t log2 (0 + from) n (drop from runs) (AreRuns-drop t log2 0 from runs are)
+
+-- without cells none is lent
+pub first_run_none : (log2 max : ℕ) (xs : List Stored) → xs ≡ [] → [] ≡ take max (first_run_cells log2 xs)
+first_run_none log2 zero [] none = refl
+first_run_none log2 (suc max) [] none = refl
+first_run_none log2 max (x ∷ xs) none = cc
+
+-- in one run all cells are of the first one's
+pub first_run_all : (t : TableId) (xs : List Stored) → first_run_cells 0 xs ≡ xs
+first_run_all t [] = refl
+first_run_all t (x ∷ xs) =
+    let own = one_tablet t (x ∷ xs) in
+    keep_own t 0 0 (tablet_at 0 x.token.value) (x ∷ xs) own.0 own

@@ -41,6 +41,12 @@ pub record IsGrouped (table : TableId) (log2 : ℕ) (runs : List Filled) : Type 
   pub count : length runs ≡ 2 ^ log2
   pub each : AreRuns table log2 0 runs
 
+-- of stored cells in the order of their tokens those that lie in the run of the first one, of 2^log2 runs
+abbrev pub first_run_cells : ℕ → List Stored → List Stored
+first_run_cells log2 [] = []
+first_run_cells log2 (first ∷ rest) =
+    filter (λ s. tablet_at log2 s.token.value == tablet_at log2 first.token.value) (first ∷ rest)
+
 -- each run is in order
 abbrev pub AreOrdered : TableId → List Filled → Type 0
 AreOrdered table [] = Unit {0}

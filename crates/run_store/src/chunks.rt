@@ -1,9 +1,9 @@
 //! What a store lends of the runs of a table: the first cells of a range, of one run alone.
-ghost use Rattle.std.specs.Prelude.{◌≡◌, ◌↔◌, ◌⊎◌, ◌+◌, ◌^◌, ◌<◌, ◌≤◌, [], length, take, slice_index_or, nat_lt, IsTrue};
+ghost use Rattle.std.specs.Prelude.{ℕ, ◌≡◌, ◌↔◌, ◌⊎◌, ◌+◌, ◌^◌, ◌<◌, ◌≤◌, [], length, take, slice_index_or, nat_lt, IsTrue};
 ghost use Rattle.token_ring.specs.Ring.{place, tablet_at};
 ghost use Rattle.replica_store.specs.Cells.{range_cells, rank};
 ghost use Rattle.replica_store.specs.Columns.{start_of};
-ghost use Rattle.run_store.specs.Runs.{Filled, of_table, run_cells, AreOrdered, IsGrouped};
+ghost use Rattle.run_store.specs.Runs.{Filled, of_table, run_cells, first_run_cells, AreOrdered, AreRuns, IsGrouped};
 
 use crate::run::{self, Run};
 use crate::runs::index_of;
@@ -30,6 +30,8 @@ pub fn chunk(
         ↔ (length result.cells.now < length (range_cells (run_cells table runs.now) table range after)) }
     ensures full { tablet_at log2 range.first.value ≡ tablet_at log2 range.last.value
         → result.cells.now ≡ take max (range_cells (run_cells table runs.now) table range after) }
+    ensures one_run { result.cells.now
+        ≡ take max (first_run_cells log2 (range_cells (run_cells table runs.now) table range after)) }
 {
     let from = index_of(log2, first_asked(range, after));
     let until = index_of(log2, range.last) + 1;
@@ -72,6 +74,8 @@ fn chunk_of(
         ↔ (length result.cells.now < length (range_cells (run_cells table runs.now) table range after)) }
     ensures full { length runs.now ≤ 1
         → result.cells.now ≡ take max (range_cells (run_cells table runs.now) table range after) }
+    ensures one_run { (log2 first : ℕ) → AreRuns table log2 first runs.now → result.cells.now
+        ≡ take max (first_run_cells log2 (range_cells (run_cells table runs.now) table range after)) }
 {
     let at = first_with(table, runs, range, after);
     if at < runs.len() {

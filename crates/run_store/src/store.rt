@@ -115,7 +115,10 @@ impl RunStore {
 }
 
 impl Store for RunStore {
-    ghost use Rattle.std.specs.Prelude.{Some, ◌^◌};
+    ghost use Rattle.std.specs.Prelude.{ℕ, [], Some, ◌^◌, ◌<◌, ◌≡◌, ◌≤◌, ◌↔◌, IsTrue, length, take};
+    ghost use Rattle.token_ring.specs.Ring.{tablet_at};
+    ghost use Rattle.replica_store.specs.Cells.{IsOrdered, range_cells};
+    ghost use Rattle.run_store.specs.Runs.{first_run_cells};
     ghost use Rattle.run_store.specs.Tables.{log2_of};
 
     ghost cells = { λ s. s.cells };
@@ -142,13 +145,28 @@ impl Store for RunStore {
         tables::get(self.tables.as_slice(), &self.rest, table, token)
     }
 
+    /// Lends cells of one run alone: the first `max` of those in the first run that has any of the range above `after`.
     fn chunk(
         &self,
         table: TableId,
         range: TokenRange,
         after: Option<Token>,
         max: usize,
-    ) -> Chunk<'_> {
+    ) -> Chunk<'_>
+        requires { 1 ≤ max }
+        ensures one_run { result.cells.now
+            ≡ take max (first_run_cells (log2_of self.now.log2s table) (range_cells self.now.cells table range after)) }
+        ensures prefix { result.cells.now
+            ≡ take (length result.cells.now) (range_cells self.now.cells table range after) }
+        ensures most { length result.cells.now ≤ max }
+        ensures some { result.cells.now ≡ [] → range_cells self.now.cells table range after ≡ [] }
+        ensures more { IsTrue result.more
+            ↔ (length result.cells.now < length (range_cells self.now.cells table range after)) }
+        ensures full { (log2 : ℕ) → Some (2 ^ log2_of self.now.log2s table) ≡ Some (2 ^ log2)
+            → tablet_at log2 range.first.value ≡ tablet_at log2 range.last.value
+            → result.cells.now ≡ take max (range_cells self.now.cells table range after) }
+        ensures ordered { IsOrdered self.now.cells }
+    {
         tables::chunk(self.tables.as_slice(), &self.rest, table, range, after, max)
     }
 

@@ -4,7 +4,7 @@ ghost use Rattle.std.specs.Option.{option_copied};
 ghost use Rattle.token_ring.specs.Ring.{tablet_at};
 ghost use Rattle.replica_store.specs.Cells.{IsOrdered, cell_at, range_cells, outside};
 ghost use Rattle.replica_store.specs.Columns.{put_at};
-ghost use Rattle.run_store.specs.Runs.{of_table, tablet_cells};
+ghost use Rattle.run_store.specs.Runs.{of_table, first_run_cells, tablet_cells};
 
 use crate::run::Run;
 use crate::{chunks, regrouping, runs};
@@ -110,6 +110,8 @@ impl TableRuns {
             ↔ (length result.cells.now < length (range_cells self.now.cells self.now.table range after)) }
         ensures full { tablet_at self.now.log2 range.first.value ≡ tablet_at self.now.log2 range.last.value
             → result.cells.now ≡ take max (range_cells self.now.cells self.now.table range after) }
+        ensures one_run { result.cells.now
+            ≡ take max (first_run_cells self.now.log2 (range_cells self.now.cells self.now.table range after)) }
     {
         chunks::chunk(
             self.table,

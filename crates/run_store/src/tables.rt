@@ -6,7 +6,7 @@ ghost use Rattle.cell_merge.specs.Cell.{greater_cell};
 ghost use Rattle.token_ring.specs.Ring.{tablet_at};
 ghost use Rattle.token_ring.specs.declared.token.Token.{Token};
 ghost use Rattle.replica_store.specs.Cells.{Cells, cell_at, is_within, only_at, outside, range_cells};
-ghost use Rattle.run_store.specs.Runs.{tablet_cells};
+ghost use Rattle.run_store.specs.Runs.{first_run_cells, tablet_cells};
 ghost use Rattle.run_store.specs.Tables.{AreTables, IsLaid, index_of, least_room, log2_of, log2s_of, store_cells};
 
 use crate::table::TableRuns;
@@ -104,6 +104,8 @@ pub fn chunk<'a>(
     ensures full { tablet_at (log2_of (log2s_of tables.now) table) range.first.value
         ≡ tablet_at (log2_of (log2s_of tables.now) table) range.last.value
         → result.cells.now ≡ take max (range_cells (store_cells tables.now rest.now.cells) table range after) }
+    ensures one_run { result.cells.now ≡ take max (first_run_cells (log2_of (log2s_of tables.now) table)
+        (range_cells (store_cells tables.now rest.now.cells) table range after)) }
 {
     let at = index_of(tables, table);
     if at < tables.len() {

@@ -2,7 +2,7 @@ use Rattle.std.proofs.Common.{◌≡◌, ◌+◌, ◌-◌, drop, length, ap, ari
 use Rattle.token_ring.specs.Ring.{place}
 use Rattle.replica_store.specs.Cells.{range_cells}
 use Rattle.run_store.specs.Runs.{run_cells}
-use Rattle.run_store.proofs.ChunkLemmas.{AreOrdered-runs, AreOrdered-drop, AreOrdered-take, narrow, narrow_none, narrow_one, take_nothing}
+use Rattle.run_store.proofs.ChunkLemmas.{AreOrdered-runs, AreOrdered-drop, AreOrdered-take, AreRuns-between, first_run_none, narrow, narrow_none, narrow_one, take_nothing}
 use Rattle.run_store.proofs.chunks.chunk.Goals as goal
 
 pub chunk_of-requires-clause-ordered : goal.chunk_of-requires-clause-ordered
@@ -40,3 +40,12 @@ pub returns-else-from-until-clause-full : goal.returns-else-from-until-clause-fu
 returns-else-from-until-clause-full c = λ _.
     let none = narrow_none c.args.table c.args.range c.args.after c.args.log2 c.index_of-from.result c.index_of-until.result c.first_asked.result c.args.runs.now (c.first_asked.ensures.asked c.args.table) c.index_of-from.ensures.tablet c.index_of-until.ensures.tablet c.if-from-until.false c.requires.grouped.each in
     take_nothing c.args.max (range_cells (run_cells c.args.table c.args.runs.now) c.args.table c.args.range c.args.after) none
+
+pub returns-then-from-until-clause-one_run : goal.returns-then-from-until-clause-one_run
+returns-then-from-until-clause-one_run c =
+    rw (narrow c.args.table c.args.range c.args.after c.args.log2 c.index_of-from.result c.index_of-until.result c.first_asked.result c.args.runs.now (c.first_asked.ensures.asked c.args.table) c.index_of-from.ensures.tablet c.index_of-until.ensures.tablet c.if-from-until.true c.requires.grouped.each) at (c.chunk_of.ensures.one_run c.args.log2 (0 + c.index_of-from.result) (AreRuns-between c.args.table c.args.log2 c.index_of-from.result (c.index_of-until.result + 1 - c.index_of-from.result) c.args.runs.now c.requires.grouped.each))
+
+pub returns-else-from-until-clause-one_run : goal.returns-else-from-until-clause-one_run
+returns-else-from-until-clause-one_run c =
+    let none = narrow_none c.args.table c.args.range c.args.after c.args.log2 c.index_of-from.result c.index_of-until.result c.first_asked.result c.args.runs.now (c.first_asked.ensures.asked c.args.table) c.index_of-from.ensures.tablet c.index_of-until.ensures.tablet c.if-from-until.false c.requires.grouped.each in
+    first_run_none c.args.log2 c.args.max (range_cells (run_cells c.args.table c.args.runs.now) c.args.table c.args.range c.args.after) none

@@ -2,7 +2,7 @@ use Rattle.std.proofs.Common.{List, ◌+◌, ◌++◌, length, drop, ap, sym, �
 use Rattle.replica_store.specs.declared.store.Stored.{Stored}
 use Rattle.replica_store.specs.Cells.{range_cells}
 use Rattle.run_store.specs.Runs.{of_table, run_cells}
-use Rattle.run_store.proofs.ChunkLemmas.{ordered_at, AreOrdered-drop, wanted_split, lend_prefix, lends_more}
+use Rattle.run_store.proofs.ChunkLemmas.{ordered_at, AreOrdered-drop, wanted_split, first_run_is, lend_prefix, lends_more}
 use Rattle.run_store.proofs.chunks.chunk_of.Goals as goal
 
 pub range_of-cells-requires : goal.range_of-cells-requires
@@ -25,3 +25,9 @@ returns-then-at-runs-clause-more c =
     let says = rw later at c.lend.ensures.more in
     let shorter = ap length c.lend.ensures.first ∙ length-take c.args.max c.range_of-cells.result.now in
     rw (split, ← cells) (lends_more c.lend.result.more (length c.lend.result.cells.now) c.range_of-cells.result.now (range_cells (run_cells c.args.table (drop (c.first_with-at.result + 1) c.args.runs.now)) c.args.table c.args.range c.args.after) says (omega arith))
+
+pub returns-then-at-runs-clause-one_run : goal.returns-then-at-runs-clause-one_run
+returns-then-at-runs-clause-one_run c = λ log2 first are.
+    let cells = c.range_of-cells.ensures ∙ ap (λ (xs : List Stored). range_cells (of_table c.args.table xs) c.args.table c.args.range c.args.after) c.as_slice.ensures in
+    let some = rw (← c.index-runs-at.is) at (c.first_with-at.ensures.some c.index-runs-at.result c.if-at-runs.true) in
+    rw (first_run_is c.args.table c.args.range c.args.after log2 first c.args.runs.now c.first_with-at.result c.index-runs-at.result are c.if-at-runs.true c.index-runs-at.is c.first_with-at.ensures.none some) (rw cells at c.lend.ensures.first)
