@@ -1,5 +1,5 @@
 -- Found tables, the logarithms of their run counts, and a table that gets its first run.
-use Rattle.std.proofs.Common.{◌≡◌, ◌≢◌, ℕ, zero, suc, ◌-◌, ◌^◌, ◌<◌, ◌≤◌, ◌==◌, ◌&&◌, not, true, false, cond, Option, None, Result, Ok, Err, List, [], ◌∷◌, ◌++◌, length, get_or, set, map, filter, refl, ap, sym, subst, ◌∙◌, arith, inl, inr}
+use Rattle.std.proofs.Common.{◌≡◌, ◌≢◌, ℕ, zero, suc, ◌-◌, ◌^◌, ◌<◌, ◌≤◌, ◌==◌, ◌&&◌, ◌||◌, not, true, false, cond, Option, None, Result, Ok, Err, List, [], ◌∷◌, ◌++◌, length, get_or, set, map, filter, refl, ap, sym, subst, ◌∙◌, arith, inl, inr}
 use Rattle.std.specs.Prelude.{OnOk}
 use Rattle.std.proofs.lemmas.Bool.{cases_lt}
 use Rattle.std.proofs.lemmas.Bool.Decides.{nat_tests}
@@ -15,7 +15,7 @@ use Rattle.replica_store.proofs.RankLemmas.{is_within-rank}
 use Rattle.replica_store.proofs.RangeLemmas.{IsOrdered-filter, filter-same}
 use Rattle.replica_store.proofs.MapLemmas.{one_list, cell_at-outside}
 use Rattle.run_store.specs.Runs.{of_table, tablet_cells}
-use Rattle.run_store.specs.Tables.{Grouped, IsOfTable, IsGrouped, AreTables, IsLaid, store_cells, cells_of, index_of, log2_of, log2s_of, least_room}
+use Rattle.run_store.specs.Tables.{Grouped, IsOfTable, IsGrouped, AreTables, IsLaid, has_own, store_cells, cells_of, index_of, log2_of, log2s_of, least_room, without}
 use Rattle.run_store.proofs.StoreLemmas.{one_table, of_one, cell_at-of_one, cell_at-store_cells, IsOrdered-store_cells, range_cells-store_cells, tablet_cells-store_cells, without_range, found_table, found_cells, missing_cells}
 
 pub found_range : (gs : List Grouped) (rest : Cells) (t : TableId) (at : ℕ) (g : Grouped) (range : TokenRange) (after : Option Token) → IsLaid gs rest → at ≡ index_of gs t → at < length gs → g ≡ get_or gs at g → range_cells g.cells g.table range after ≡ range_cells (store_cells gs rest) t range after
@@ -121,6 +121,17 @@ module _ (whole : TokenRange) (all : (t : TableId) (k : Token) → is_within t w
             rw (within_table t x same) (ap (λ (e : TableId × Stored). e ∷ of_table t (range_cells xs t whole None)) head ∙ ap (λ (es : Cells). x ∷ es) (of_table-whole t xs))
         | false ↦ λ apart. rw apart (of_table-whole t xs)
       ] refl
+
+  -- outside of all tokens of a table stand the cells of the other tables
+  pub outside-whole : (t : TableId) (xs : Cells) → outside xs t whole ≡ without t xs
+  outside-whole t xs = filter-same (λ e. not (is_inside t whole e)) (λ e. not (e.0.0 == t.0)) xs same
+    where
+      same : (x : TableId × Stored) → not (is_inside t whole x) ≡ not (x.0.0 == t.0)
+      same x =
+          elim (x.0.0 == t.0) as (λ b. (x.0.0 == t.0) ≡ b → not (is_inside t whole x) ≡ not b) [
+            | true ↦ λ own. rw (within_table t x own)
+            | false ↦ λ apart. rw apart
+          ] refl
 
   -- and with one tablet alone they are those of that tablet
   pub whole_tablet : (t : TableId) (xs : Cells) → range_cells xs t whole None ≡ tablet_cells xs t 0 0
@@ -236,3 +247,27 @@ missing_tablet gs rest t tablet laid missing below =
 pub dropped : (old new : Cells) (t : TableId) (range : TokenRange) → IsOrdered old → IsOrdered new → ((u : TableId) (k : Token) → cell_at new u k ≡ without_range t range u k (cell_at old u k)) → new ≡ outside old t range
 dropped old new t range ordered ordered_new left =
     one_list new (outside old t range) ordered_new (IsOrdered-filter (λ e. not (is_inside t range e)) old ordered) (λ u k. left u k ∙ sym (cell_at-outside old t range u k))
+
+-- a table that is found has runs of its own
+pub found_own : (gs : List Grouped) (t : TableId) → index_of gs t < length gs → has_own (log2s_of gs) t ≡ true
+found_own [] t within = absurd (omega arith)
+found_own (x ∷ gs) t within =
+    elim (x.table.0 == t.0) as (λ b. cond b 0 (suc (index_of gs t)) < suc (length gs) → (b || has_own (log2s_of gs) t) ≡ true) [
+      | true ↦ λ _. refl
+      | false ↦ λ later. found_own gs t (omega arith)
+    ] within
+
+-- and keeps them where a table is added
+pub own_push : (gs : List Grouped) (g : Grouped) (t : TableId) → has_own (log2s_of gs) t ≡ true → has_own (log2s_of (gs ++ g ∷ [])) t ≡ true
+own_push [] g t own = absurd cc
+own_push (x ∷ gs) g t own =
+    elim (x.table.0 == t.0) as (λ b. (b || has_own (log2s_of gs) t) ≡ true → (b || has_own (log2s_of (gs ++ g ∷ [])) t) ≡ true) [
+      | true ↦ λ _. refl
+      | false ↦ own_push gs g t
+    ] own
+
+-- and where one table has changed
+pub own_set : (gs : List Grouped) (i : ℕ) (old new : Grouped) → old ≡ get_or gs i old → new.table ≡ old.table → (t : TableId) → has_own (log2s_of (set gs i new)) t ≡ has_own (log2s_of gs) t
+own_set [] i old new read table t = refl
+own_set (g ∷ gs) zero old new read table t = rw (table ∙ ap (λ (x : Grouped). x.table) read) refl
+own_set (g ∷ gs) (suc i) old new read table t = rw (own_set gs i old new read table t) refl

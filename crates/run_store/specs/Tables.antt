@@ -1,5 +1,5 @@
 -- A store of tables that have runs of their own, and of one sorted list for the rest.
-use Rattle.std.specs.Prelude.{◌≡◌, ℕ, suc, ◌≤◌, ◌==◌, ◌^◌, not, List, [], ◌∷◌, map, filter, min, if◌then◌else◌}
+use Rattle.std.specs.Prelude.{◌≡◌, ℕ, suc, ◌≤◌, ◌==◌, ◌||◌, ◌^◌, Bool, false, not, List, [], ◌∷◌, map, filter, min, if◌then◌else◌}
 use Rattle.base_ids.specs.declared.ids.TableId.{TableId}
 use Rattle.replica_store.specs.Cells.{Cells, IsOrdered}
 use Rattle.replica_store.specs.Columns.{put_at}
@@ -61,6 +61,11 @@ index_of (g ∷ gs) table = if g.table.0 == table.0 then 0 else suc (index_of gs
 abbrev pub log2_of : List (TableId × ℕ) → TableId → ℕ
 log2_of [] table = 0
 log2_of (p ∷ ps) table = if p.0.0 == table.0 then p.1 else log2_of ps table
+
+-- the table has runs of its own
+abbrev pub has_own : List (TableId × ℕ) → TableId → Bool
+has_own [] table = false
+has_own (p ∷ ps) table = (p.0.0 == table.0) || has_own ps table
 
 -- how many cells each table takes without taking memory, and 2^64 where there is none
 abbrev pub least_room : List Grouped → ℕ

@@ -99,7 +99,7 @@ fn has_any(table: TableId, runs: &[Run], range: TokenRange, after: Option<Token>
     first_with(table, runs, range, after) < runs.len()
 }
 
-/// The index of the first run with cells of the range above `after`, or the count of the runs.
+/// The least index of a run in which the range has cells above `after`, or the count of the runs.
 fn first_with(table: TableId, runs: &[Run], range: TokenRange, after: Option<Token>) -> usize
     requires { AreOrdered table runs.now }
     ensures within { result ≤ length runs.now }

@@ -1,9 +1,9 @@
 //! A store with runs.
-ghost use Rattle.std.specs.Prelude.{◌≡◌, ◌≢◌, ◌↔◌, ℕ, ◌+◌, ◌^◌, ◌<◌, ◌≤◌, [], length, take, IsTrue, OnOk, OnErr, Option, Some};
+ghost use Rattle.std.specs.Prelude.{◌≡◌, ◌≢◌, ◌↔◌, ℕ, ◌+◌, ◌^◌, ◌<◌, ◌≤◌, [], true, length, take, IsTrue, OnOk, OnErr, Option, Some};
 ghost use Rattle.std.specs.Option.{option_copied};
 ghost use Rattle.base_ids.specs.declared.ids.TableId.{TableId};
 ghost use Rattle.run_store.specs.Runs.{tablet_cells};
-ghost use Rattle.run_store.specs.Tables.{log2_of};
+ghost use Rattle.run_store.specs.Tables.{has_own, log2_of};
 
 use crate::table::TableRuns;
 use crate::tables;
@@ -54,7 +54,7 @@ impl RunStore {
         }
     }
 
-    /// The count of a table's runs: a power of two from 1 to 1024, and 1 for a table that was never regrouped.
+    /// In how many runs a table's cells lie: `2^log2` with log2 up to 10; 1 before any regrouping.
     pub fn run_count(&self, table: TableId) -> usize
         ensures count { result ≡ 2 ^ log2_of self.now.log2s table }
         ensures few { log2_of self.now.log2s table ≤ 10 }
@@ -79,6 +79,7 @@ impl RunStore {
         ensures ok { OnOk result (log2_of self.new.log2s table ≡ log2_of self.old.log2s table + 1) }
         ensures err { OnErr result (log2_of self.new.log2s table ≡ log2_of self.old.log2s table) }
         ensures others { (t : TableId) → t ≢ table → log2_of self.new.log2s t ≡ log2_of self.old.log2s t }
+        ensures own_kept { (t : TableId) → has_own self.old.log2s t ≡ true → has_own self.new.log2s t ≡ true }
     {
         tables::segregate(self.alloc, &mut self.tables, &mut self.rest, table)
     }
@@ -91,6 +92,7 @@ impl RunStore {
         ensures ok { OnOk result (log2_of self.new.log2s table + 1 ≡ log2_of self.old.log2s table) }
         ensures err { OnErr result (log2_of self.new.log2s table ≡ log2_of self.old.log2s table) }
         ensures others { (t : TableId) → t ≢ table → log2_of self.new.log2s t ≡ log2_of self.old.log2s t }
+        ensures own_kept { (t : TableId) → has_own self.old.log2s t ≡ true → has_own self.new.log2s t ≡ true }
     {
         tables::join_groups(self.alloc, &mut self.tables, &mut self.rest, table)
     }
@@ -108,6 +110,8 @@ impl RunStore {
         ensures map { self.new.cells ≡ self.old.cells }
         ensures runs { (t : TableId) → log2_of self.new.log2s t ≡ log2_of self.old.log2s t }
         ensures few { log2_of self.new.log2s table ≤ 10 }
+        ensures own { OnOk result (has_own self.new.log2s table ≡ true) }
+        ensures own_kept { (t : TableId) → has_own self.old.log2s t ≡ true → has_own self.new.log2s t ≡ true }
     {
         tables::adopt(self.alloc, &mut self.tables, &mut self.rest, table)?;
         Ok(())
@@ -115,11 +119,12 @@ impl RunStore {
 }
 
 impl Store for RunStore {
-    ghost use Rattle.std.specs.Prelude.{ℕ, [], Some, ◌^◌, ◌<◌, ◌≡◌, ◌≤◌, ◌↔◌, IsTrue, length, take};
+    ghost use Rattle.std.specs.Prelude.{ℕ, [], true, Some, ◌^◌, ◌<◌, ◌≡◌, ◌≢◌, ◌≤◌, ◌↔◌, IsTrue, OnOk, OnErr, length, take};
+    ghost use Rattle.base_ids.specs.declared.ids.TableId.{TableId};
     ghost use Rattle.token_ring.specs.Ring.{tablet_at};
-    ghost use Rattle.replica_store.specs.Cells.{IsOrdered, range_cells};
+    ghost use Rattle.replica_store.specs.Cells.{IsOrdered, IsRegrouped, range_cells};
     ghost use Rattle.run_store.specs.Runs.{first_run_cells};
-    ghost use Rattle.run_store.specs.Tables.{log2_of};
+    ghost use Rattle.run_store.specs.Tables.{has_own, log2_of};
 
     ghost cells = { λ s. s.cells };
 
@@ -174,7 +179,18 @@ impl Store for RunStore {
         tables::drop_range(&mut self.tables, &mut self.rest, table, range);
     }
 
-    fn regroup(&mut self, table: TableId, log2: u8) -> Result<(), NoMemory> {
+    /// Lays the cells of a table into `2^log2` runs of its own. No table loses its own runs.
+    fn regroup(&mut self, table: TableId, log2: u8) -> Result<(), NoMemory>
+        requires { log2 ≤ 10 }
+        ensures map { self.new.cells ≡ self.old.cells }
+        ensures ok { OnOk result (Some (2 ^ log2_of self.new.log2s table) ≡ Some (2 ^ log2)) }
+        ensures err { OnErr result
+            (IsRegrouped (Some (2 ^ log2_of self.old.log2s table)) (Some (2 ^ log2_of self.new.log2s table))) }
+        ensures other_runs { (t : TableId) → t ≢ table
+            → Some (2 ^ log2_of self.new.log2s t) ≡ Some (2 ^ log2_of self.old.log2s t) }
+        ensures own { OnOk result (has_own self.new.log2s table ≡ true) }
+        ensures own_kept { (t : TableId) → has_own self.old.log2s t ≡ true → has_own self.new.log2s t ≡ true }
+    {
         self.adopt(table)?;
         'cutting: while self.log2(table) < log2 {
             self.segregate(table)?;

@@ -7,7 +7,7 @@ ghost use Rattle.token_ring.specs.Ring.{tablet_at};
 ghost use Rattle.token_ring.specs.declared.token.Token.{Token};
 ghost use Rattle.replica_store.specs.Cells.{Cells, cell_at, is_within, only_at, outside, range_cells};
 ghost use Rattle.run_store.specs.Runs.{first_run_cells, tablet_cells};
-ghost use Rattle.run_store.specs.Tables.{AreTables, IsLaid, index_of, least_room, log2_of, log2s_of, store_cells};
+ghost use Rattle.run_store.specs.Tables.{AreTables, IsLaid, has_own, index_of, least_room, log2_of, log2s_of, store_cells, without};
 
 use crate::table::TableRuns;
 use base_ids::{NoMemory, TableId};
@@ -160,6 +160,13 @@ pub fn adopt(
     ensures log2s { (t : TableId) → log2_of (log2s_of tables.new.items) t ≡ log2_of (log2s_of tables.old.items) t }
     ensures at { IfOk result (λ at. at ≡ index_of tables.new.items table) }
     ensures within { IfOk result (λ at. at < length tables.new.items) }
+    ensures moved { IfOk result (λ _. length tables.old.items ≤ index_of tables.old.items table
+        → rest.new.cells ≡ without table rest.old.cells) }
+    ensures kept { IfOk result (λ _. index_of tables.old.items table < length tables.old.items
+        → (tables.new.items ≡ tables.old.items) × (rest.new.cells ≡ rest.old.cells)) }
+    ensures own { IfOk result (λ _. has_own (log2s_of tables.new.items) table ≡ true) }
+    ensures own_kept { (t : TableId) → has_own (log2s_of tables.old.items) t ≡ true
+        → has_own (log2s_of tables.new.items) t ≡ true }
 {
     let at = index_of(tables.as_slice(), table);
     if at < tables.len() {
@@ -198,6 +205,8 @@ pub fn segregate(
     ensures err { OnErr result (log2_of (log2s_of tables.new.items) table ≡ log2_of (log2s_of tables.old.items) table) }
     ensures others { (t : TableId) → t ≢ table
         → log2_of (log2s_of tables.new.items) t ≡ log2_of (log2s_of tables.old.items) t }
+    ensures own_kept { (t : TableId) → has_own (log2s_of tables.old.items) t ≡ true
+        → has_own (log2s_of tables.new.items) t ≡ true }
 {
     let at = adopt(alloc, tables, rest, table)?;
     let own = &mut tables[at];
@@ -220,6 +229,8 @@ pub fn join_groups(
     ensures err { OnErr result (log2_of (log2s_of tables.new.items) table ≡ log2_of (log2s_of tables.old.items) table) }
     ensures others { (t : TableId) → t ≢ table
         → log2_of (log2s_of tables.new.items) t ≡ log2_of (log2s_of tables.old.items) t }
+    ensures own_kept { (t : TableId) → has_own (log2s_of tables.old.items) t ≡ true
+        → has_own (log2s_of tables.new.items) t ≡ true }
 {
     let at = adopt(alloc, tables, rest, table)?;
     let own = &mut tables[at];

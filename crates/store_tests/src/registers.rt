@@ -4,14 +4,21 @@ use register_model::{ClientEvent, Key, Request, check};
 use std::test::Fail;
 use token_ring::Token;
 
-fn request(lane: u8, op: u64) -> Request {
+fn request(host: u16, op: u64) -> Request {
     Request {
         lane: LaneId {
-            host: HostId(0),
-            lane,
+            host: HostId(host),
+            lane: 0,
         },
         op: OpId(op),
     }
+}
+
+fn key(token: i64) -> Result<Key, Fail> {
+    Ok(Key {
+        table: TableId(1),
+        token: Token::new(token).ok_or("no token")?,
+    })
 }
 
 fn live(timestamp: i64, bytes: &[u8]) -> Result<Cell, Fail> {
@@ -21,60 +28,58 @@ fn live(timestamp: i64, bytes: &[u8]) -> Result<Cell, Fail> {
     })
 }
 
-// A key is written, then read twice while its tablet moves; the second read returns `last`. Two other requests end
-// with neither.
-fn history(last: Option<Cell>) -> Result<[ClientEvent; 10], Fail> {
-    let key = Key {
-        table: TableId(1),
-        token: Token::new(7).ok_or("no token")?,
-    };
-    let cell = live(1, b"a")?;
+fn write(op: u64, token: i64, cell: Cell) -> Result<ClientEvent, Fail> {
+    Ok(ClientEvent::WriteBegun {
+        request: request(0, op),
+        key: key(token)?,
+        cell,
+    })
+}
+
+fn acked(op: u64) -> ClientEvent {
+    ClientEvent::WriteAcked {
+        request: request(0, op),
+    }
+}
+
+fn read(host: u16, op: u64, token: i64) -> Result<ClientEvent, Fail> {
+    Ok(ClientEvent::ReadBegun {
+        request: request(host, op),
+        key: key(token)?,
+    })
+}
+
+fn answered(host: u16, op: u64, cell: Option<Cell>) -> ClientEvent {
+    ClientEvent::ReadOk {
+        request: request(host, op),
+        cell,
+    }
+}
+
+// What clients of four hosts begin and are told in a run, while tablet 0 of table 1 moves from host 2 to host 3:
+// lane 0.0 writes and reads, then lane 3.0 reads what was written first, and gets `last`.
+fn history(last: Option<Cell>) -> Result<[ClientEvent; 14], Fail> {
     Ok([
-        ClientEvent::WriteBegun {
-            request: request(0, 1),
-            key,
-            cell,
-        },
-        ClientEvent::WriteAcked {
-            request: request(0, 1),
-        },
-        ClientEvent::ReadBegun {
-            request: request(1, 1),
-            key,
-        },
-        ClientEvent::ReadOk {
-            request: request(1, 1),
-            cell: Some(live(1, b"a")?),
-        },
-        ClientEvent::WriteBegun {
-            request: request(2, 1),
-            key,
-            cell: live(2, b"b")?,
-        },
-        ClientEvent::Ended {
-            request: request(2, 1),
-        },
-        ClientEvent::ReadBegun {
-            request: request(0, 2),
-            key,
-        },
-        ClientEvent::ReadBegun {
-            request: request(2, 2),
-            key,
-        },
-        ClientEvent::Ended {
-            request: request(2, 2),
-        },
-        ClientEvent::ReadOk {
-            request: request(0, 2),
-            cell: last,
-        },
+        write(1, 5, live(10, b"a")?)?,
+        acked(1),
+        write(2, 6, live(11, b"b")?)?,
+        acked(2),
+        write(3, 7, live(12, b"c")?)?,
+        acked(3),
+        read(0, 4, 7)?,
+        answered(0, 4, Some(live(12, b"c")?)),
+        read(0, 5, 5)?,
+        answered(0, 5, Some(live(10, b"a")?)),
+        write(6, 8, live(13, b"d")?)?,
+        acked(6),
+        read(3, 1, 5)?,
+        answered(3, 1, last),
     ])
 }
 
 #[test]
 fn a_read_below_an_acknowledged_write_is_no_run(rt: HostRuntime) -> Result<(), Fail> {
-    assert_eq!(rt; check(rt.alloc(), &history(Some(live(1, b"a")?))?)?, true);
+    assert_eq!(rt; check(rt.alloc(), &history(Some(live(10, b"a")?))?)?, true);
     assert_eq!(rt; check(rt.alloc(), &history(None)?)?, false);
     Ok(())
 }

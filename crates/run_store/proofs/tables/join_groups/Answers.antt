@@ -1,6 +1,6 @@
 use Rattle.std.proofs.Common.{◌+◌, ap, ◌∙◌}
 use Rattle.run_store.proofs.StoreLemmas.{found_table, found_is, same_is, AreTables-set}
-use Rattle.run_store.proofs.AdoptLemmas.{found_log2, log2_here, log2_elsewhere, store_cells-set, OnOk-map}
+use Rattle.run_store.proofs.AdoptLemmas.{found_log2, log2_here, log2_elsewhere, store_cells-set, OnOk-map, own_set}
 use Rattle.run_store.proofs.tables.join_groups.Goals as goal
 
 pub join_groups-requires : goal.join_groups-requires
@@ -30,3 +30,7 @@ pub returns-clause-others : goal.returns-clause-others
 returns-clause-others c = λ t apart.
     let table = c.join_groups.ensures.table ∙ found_table c.adopt.new.tables.items c.args.table c.in_ok-at.at c.index_mut-own.result.now c.in_ok-at.ensures.at c.in_ok-at.ensures.within c.index_mut-own.ensures.value in
     log2_elsewhere c.adopt.new.tables.items c.args.table c.in_ok-at.at c.join_groups.new.self c.in_ok-at.ensures.at c.in_ok-at.ensures.within table t apart ∙ c.in_ok-at.ensures.log2s t
+
+pub returns-clause-own_kept : goal.returns-clause-own_kept
+returns-clause-own_kept c = λ t own.
+    rw (own_set c.adopt.new.tables.items c.in_ok-at.at c.index_mut-own.result.now c.join_groups.new.self c.index_mut-own.ensures.value c.join_groups.ensures.table t) (c.in_ok-at.ensures.own_kept t own)
