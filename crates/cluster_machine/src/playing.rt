@@ -3,7 +3,7 @@ ghost use Rattle.std.specs.Prelude.{◌≡◌, ◌++◌, ◌∷◌, [], ℕ, fal
 ghost use Rattle.base_ids.specs.declared.rules.Appended.{Appended};
 ghost use Rattle.topo_state.specs.declared.command.Command.{Command};
 ghost use Rattle.topo_state.specs.declared.command.Rule.{Rule};
-ghost use Rattle.host_core.specs.Host.{CanTake, host_after, host_out};
+ghost use Rattle.host_core.specs.Host.{CanTake, host_after, host_out, host_rule};
 ghost use Rattle.host_ties.specs.HostTies.{host_outputs};
 ghost use Rattle.lane_core.specs.Lane.{IsFor, lane_after, lane_out, lane_rule};
 ghost use Rattle.lane_ties.specs.LaneTies.{lane_outputs};
@@ -41,6 +41,7 @@ fn host_entry(
     event: Event,
     input: HostInput,
 ) -> Result<(), NoMemory>
+    requires rule { host_rule core.old.core input ≡ None }
     requires fits { CanTake core.old.core input }
     ensures ok { OnOk result (entries.new.items ≡ entries.old.items
         ++ record { event = event; outputs = host_outputs host (host_out core.old.core input) } ∷ []) }
@@ -68,6 +69,7 @@ pub(crate) fn play_host(
     event: Event,
     input: HostInput,
 ) -> Result<(), NoMemory>
+    requires rule { host_rule core.old.core input ≡ None }
     requires fits { CanTake core.old.core input }
     ensures ok { OnOk result (entries.new
         ≡ entries.old ++ record { event = event; outputs = host_outputs host (host_out core.old.core input) } ∷ []) }

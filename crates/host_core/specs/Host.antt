@@ -139,8 +139,8 @@ host_after view (Pull session) =
 host_after view input = view
 
 -- a restart keeps all but the pulls
-abbrev pub restarted : HostView → HostView
-restarted view = record view { pulls = [] }
+abbrev pub restarted_host : HostView → HostView
+restarted_host view = record view { pulls = [] }
 
 -- ---- what comes out
 

@@ -1,6 +1,6 @@
 -- What must be ready before an input is settled.
-use Rattle.std.specs.Prelude.{ℕ, ◌≡◌, ◌≤◌, length, Option, Some}
-use Rattle.host_core.specs.Host.{HostView, host_out, next_state, next_pull, CanTake}
+use Rattle.std.specs.Prelude.{ℕ, ◌≡◌, ◌≤◌, length, Option, None, Some}
+use Rattle.host_core.specs.Host.{HostView, host_out, host_rule, next_state, next_pull, CanTake}
 use Rattle.host_core.specs.declared.data.HostInput.{HostInput}
 use Rattle.host_core.specs.declared.data.HostInput.TheVariants.{Write, TakeChunk, Pull}
 use Rattle.host_core.specs.declared.data.Made.{Made}
@@ -27,9 +27,10 @@ abbrev pub needed_pulls : HostInput → ℕ
 needed_pulls (Pull session) = 1
 needed_pulls input = 0
 
--- all that the input takes is there
+-- the host's state breaks no rule of the input, and all that the input takes is there
 module _ {S : Type 0} where
   pub record HasMade (host : Holding S) (input : HostInput) : Type 0 where
+    pub rule : host_rule host.core input ≡ None
     pub made : host.made ≡ Some (made_of host.core input)
     pub room : needed_cells input ≤ host.room
     pub pull_room : needed_pulls input ≤ host.pull_room

@@ -1,7 +1,7 @@
 //! A host over a store.
 ghost use Rattle.std.specs.Prelude.{◌≡◌, ◌≤◌, [], IfOk, OnOk, OnErr, MatchResult, None, Some};
 ghost use Rattle.base_ids.specs.declared.ids.TableId.{TableId};
-ghost use Rattle.host_core.specs.Host.{first_host, is_pulled, holds_here, pull_input_rule, host_rule, next_state, next_pull, host_after, host_out, restarted, CanTake};
+ghost use Rattle.host_core.specs.Host.{first_host, is_pulled, holds_here, pull_input_rule, host_rule, next_state, next_pull, host_after, host_out, restarted_host, CanTake};
 ghost use Rattle.host_core.specs.Pulls.{pull_in, pull_of_state};
 ghost use Rattle.host_core.specs.Groups.{grouping_of, runs_with, AreLeft};
 
@@ -258,7 +258,8 @@ impl<S: Store> HostCore<S> {
 
     /// Takes all memory of an input. Of `core` nothing changes; the run count of the table that the input regroups may.
     pub fn prepare(&mut self, input: HostInput) -> Result<Prepared, NoMemory>
-        requires { CanTake self.old.core input }
+        requires rule { host_rule self.old.core input ≡ None }
+        requires fits { CanTake self.old.core input }
         ensures core { self.new.core ≡ self.old.core }
         ensures input { IfOk result (λ prepared. prepared ≡ input) }
         ensures ready { IfOk result (λ prepared. HasMade self.new prepared) }
@@ -317,11 +318,13 @@ impl<S: Store> HostCore<S> {
         out
     }
 
-    /// Loses the pulls, and keeps all else.
+    /// Loses the pulls and what was prepared, and keeps all else.
     pub fn restart(&mut self)
-        ensures core { self.new.core ≡ restarted self.old.core }
+        ensures core { self.new.core ≡ restarted_host self.old.core }
+        ensures made { self.new.made ≡ None }
         ensures runs { (t : TableId) → S.runs self.new.store t ≡ S.runs self.old.store t }
     {
         self.pulls.clear();
+        self.made = None;
     }
 }

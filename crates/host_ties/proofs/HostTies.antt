@@ -13,9 +13,10 @@ use Rattle.base_ids.specs.declared.ids.MsgRef.{MsgRef}
 use Rattle.base_ids.specs.declared.ids.Session.{Session}
 use Rattle.base_ids.specs.declared.ids.TableId.{TableId}
 use Rattle.base_ids.specs.declared.ids.Version.{Version}
+use Rattle.base_ids.specs.declared.rules.EventRule.{EventRule}
 use Rattle.group0_log.proofs.StateLemmas.{command_within, leads}
 use Rattle.group0_log.specs.Log.{command_at}
-use Rattle.host_core.specs.Host.{cells_with_chunk as chunk_cells_by, chunk_out, clean_cells, clean_out, clean_pulls, cleanup_out, host_after, kept_pulls, pull_out, took_out}
+use Rattle.host_core.specs.Host.{cells_with_chunk as chunk_cells_by, chunk_out, clean_cells, clean_out, clean_pulls, cleanup_out, host_after, host_rule, kept_pulls, pull_out, took_out}
 use Rattle.host_core.specs.Pulls.{Pulls, pull_of_state as first_pull_by, pull_in}
 use Rattle.host_core.specs.declared.data.HostInput.{HostInput}
 use Rattle.host_core.specs.declared.data.HostInput.TheVariants.{Answer as AnswerInput, Apply as ApplyInput, Clean as CleanInput, Pull as PullInput, Quiet as QuietInput, Read as ReadInput, SendChunk, TakeChunk as ChunkInput, Write as WriteInput}
@@ -61,8 +62,10 @@ use Rattle.cluster_history.specs.declared.data.Output.TheVariants.{Pulled, Sent}
 use Rattle.history_facts.proofs.HostLemmas.{log_legal}
 use Rattle.history_facts.proofs.LegalLemmas.{rule_takes, taken_by}
 use Rattle.history_facts.proofs.NameLemmas.{same_host-refl, same_host-same}
+use Rattle.host_ties.proofs.HostRules.{host_rules}
 use Rattle.host_ties.proofs.LogLemmas.{below_end, next_there}
 use Rattle.host_ties.proofs.PullLemmas.{pulls_agree, same_first}
+use Rattle.host_ties.specs.HostRules.{asked_rule, live_rule, taking_rule}
 use Rattle.host_ties.specs.HostTies.{HostsBegin, HostsHaveInputs, HostsPlay, HostsRestart, HostsStay, IsHostPlay, ask_in, host_input, host_outputs, host_view, pulls_after, pulls_cleaned, pulls_of, served_input}
 
 -- ---- at the opening, past the events of others, and at a restart
@@ -223,19 +226,37 @@ apply_plays opening history host command legal short found =
     let step = leads first log (log_legal opening history legal) (below_end first log (omega (arith, short))) count command found in
     let within = command_within log (count + 1) command found in
     record {
+      rule = refl;
       fits = record { fit = step.accepted.fit; judged = step.accepted.judged; version = step.below; applied = omega (arith, within, short) };
       outputs = refl;
       after = rw (same_host-refl host) (λ i. record (host_view opening history host) { applied = count + 1; state = sym step.next i });
     }
 
-quiet_plays : (opening : Opening) (history : History) (host : HostId) (version : Version) → IsHostPlay opening history host (Quiet host version) (QuietInput version)
-quiet_plays opening history host version = record { fits = tt; outputs = refl; after = rw (same_host-refl host) refl }
+-- of two rules that are not broken, each is not
+first_kept : (first other : Option EventRule) → option_or first other ≡ None → first ≡ None
+first_kept None other kept = refl
+first_kept (Some rule) other kept = cc kept
 
-pull_plays : (opening : Opening) (history : History) (host : HostId) (session : Session) → IsHostPlay opening history host (Pull host session) (PullInput session)
-pull_plays opening history host session =
+other_kept : (first other : Option EventRule) → option_or first other ≡ None → other ≡ None
+other_kept None other kept = kept
+other_kept (Some rule) other kept = cc kept
+
+quiet_plays : (opening : Opening) (history : History) (host : HostId) (version : Version) → broken_rule opening history (Quiet host version) ≡ None → IsHostPlay opening history host (Quiet host version) (QuietInput version)
+quiet_plays opening history host version enabled =
+    let both = sym ((host_rules opening history host).quiet version) ∙ enabled in
+    record {
+      rule = first_kept (host_rule (host_view opening history host) (QuietInput version)) (live_rule opening history host version) both;
+      fits = tt;
+      outputs = refl;
+      after = rw (same_host-refl host) refl;
+    }
+
+pull_plays : (opening : Opening) (history : History) (host : HostId) (session : Session) → broken_rule opening history (Pull host session) ≡ None → IsHostPlay opening history host (Pull host session) (PullInput session)
+pull_plays opening history host session enabled =
     let pull = pulls_agree opening history host session in
     let first = same_first (applied_state opening history host) host session in
     record {
+      rule = sym ((host_rules opening history host).pull session) ∙ enabled;
       fits = tt;
       outputs = pull_told host (option_or (pull_in (pulls_of opening history host) session) (first_pull_by (applied_state opening history host) host session)) ∙ (λ i. pull_outputs (option_or (pull i) (first i)));
       after = rw (same_host-refl host) refl;
@@ -246,6 +267,7 @@ write_plays opening history host at ask sent =
     let cells = held_cells opening history host in
     let put = put_once (fence_of opening history host) (held_cell opening history host) cells ask in
     record {
+      rule = refl;
       fits = tt;
       outputs = rw sent refl;
       after = rw (sent, same_host-refl host) (λ i. record (host_view opening history host) { cells = put i });
@@ -256,6 +278,7 @@ read_plays opening history host at ask sent =
     let fence = fence_of opening history host in
     let cell = cell_at-held_cells opening history host (read_key ask) in
     record {
+      rule = refl;
       fits = tt;
       outputs = rw sent (λ i. answer_of ask.lane ask.op ask.to (said_to ask.version fence (Found (cell i))) ∷ []);
       after = rw (sent, same_host-refl host) refl;
@@ -263,10 +286,19 @@ read_plays opening history host at ask sent =
 
 send_plays : (opening : Opening) (history : History) (host : HostId) (at : MsgRef) (ask : ChunkAsk) → message_at history at ≡ Some (ChunkAskSent ask) → IsHostPlay opening history host (Serve host at) (SendChunk ask)
 send_plays opening history host at ask sent =
-    record { fits = tt; outputs = rw sent refl; after = rw (sent, same_host-refl host) refl }
+    record { rule = refl; fits = tt; outputs = rw sent refl; after = rw (sent, same_host-refl host) refl }
 
-answer_plays : (opening : Opening) (history : History) (host : HostId) (at : MsgRef) (ask : Ask) → message_at history at ≡ Some (AskSent ask) → IsHostPlay opening history host (Answer host at) (AnswerInput ask)
-answer_plays opening history host at ask sent = record { fits = tt; outputs = rw sent refl; after = refl }
+answer_plays : (opening : Opening) (history : History) (host : HostId) (at : MsgRef) (ask : Ask) → message_at history at ≡ Some (AskSent ask) → broken_rule opening history (Answer host at) ≡ None → IsHostPlay opening history host (Answer host at) (AnswerInput ask)
+answer_plays opening history host at ask sent enabled =
+    let view = host_view opening history host in
+    let both = sym ((host_rules opening history host).answer at) ∙ enabled in
+    let asked = other_kept (taking_rule history host is_question at) (asked_rule view (ask_in (message_at history at))) both in
+    record {
+      rule = ap (λ message. asked_rule view (ask_in message)) (sym sent) ∙ asked;
+      fits = tt;
+      outputs = rw sent refl;
+      after = refl;
+    }
 
 take_plays : (opening : Opening) (history : History) (host : HostId) (at : MsgRef) (chunk : ChunkMsg) → message_at history at ≡ Some (ChunkSent chunk) → IsHostPlay opening history host (TakeChunk host at) (ChunkInput chunk)
 take_plays opening history host at chunk sent =
@@ -276,6 +308,7 @@ take_plays opening history host at chunk sent =
     let put : chunk_cells_by cells chunk listed ≡ with_cells cells (pulled_cells (pull_of opening history host chunk.session) chunk) =
     chunk_put cells listed chunk ∙ ap (λ p. with_cells cells (pulled_cells p chunk)) pull in
     record {
+      rule = refl;
       fits = tt;
       outputs = rw sent (chunk_told host listed chunk ∙ ap (λ p. if is_last p chunk then Pulled chunk.session ∷ [] else []) pull);
       after = rw (sent, same_host-refl host) (λ i. record (host_after (host_view opening history host) (ChunkInput chunk)) { cells = put i });
@@ -294,6 +327,7 @@ clean_plays opening history host at by to (CleanOf session) sent taken =
     let kept = clean_kept state host (held_cells opening history host) ask session in
     let kept_pulls = clean_pulls_kept state host (pulls_of opening history host) ask session in
     record {
+      rule = refl;
       fits = tt;
       outputs = rw sent (clean_told state host ask session (same_host-same to host taken));
       after = rw (sent, same_host-refl host) (λ i. record (host_view opening history host) { cells = kept i; pulls = kept_pulls i });
@@ -315,9 +349,9 @@ serve_by_message opening history host at (Some (ReadSent ask)) sent = read_plays
 serve_by_message opening history host at (Some (ChunkAskSent ask)) sent = send_plays opening history host at ask sent
 serve_by_message opening history host at message sent = tt
 
-answer_by_message : (opening : Opening) (history : History) (host : HostId) (at : MsgRef) (message : Option Message) → message_at history at ≡ message → Plays opening history host (Answer host at) (option_map AnswerInput (ask_in message))
-answer_by_message opening history host at (Some (AskSent ask)) sent = answer_plays opening history host at ask sent
-answer_by_message opening history host at message sent = tt
+answer_by_message : (opening : Opening) (history : History) (host : HostId) (at : MsgRef) (message : Option Message) → message_at history at ≡ message → broken_rule opening history (Answer host at) ≡ None → Plays opening history host (Answer host at) (option_map AnswerInput (ask_in message))
+answer_by_message opening history host at (Some (AskSent ask)) sent enabled = answer_plays opening history host at ask sent enabled
+answer_by_message opening history host at message sent enabled = tt
 
 take_by_message : (opening : Opening) (history : History) (host : HostId) (at : MsgRef) (message : Option Message) → message_at history at ≡ message → Plays opening history host (TakeChunk host at) (option_map ChunkInput (chunk_in message))
 take_by_message opening history host at (Some (ChunkSent chunk)) sent = take_plays opening history host at chunk sent
@@ -333,15 +367,15 @@ event_plays : (opening : Opening) (history : History) (event : Event) (host : Ho
 event_plays opening history (Apply by) host legal mine enabled short =
     subst (λ h. Plays opening history h (Apply by) (host_input history (Apply by))) (cc mine) (apply_by_command opening history by _ legal short refl)
 event_plays opening history (Quiet by version) host legal mine enabled short =
-    subst (λ h. IsHostPlay opening history h (Quiet by version) (QuietInput version)) (cc mine) (quiet_plays opening history by version)
+    subst (λ h. IsHostPlay opening history h (Quiet by version) (QuietInput version)) (cc mine) (quiet_plays opening history by version enabled)
 event_plays opening history (Serve by at) host legal mine enabled short =
     subst (λ h. Plays opening history h (Serve by at) (host_input history (Serve by at))) (cc mine) (serve_by_message opening history by at (message_at history at) refl)
 event_plays opening history (Answer by at) host legal mine enabled short =
-    subst (λ h. Plays opening history h (Answer by at) (host_input history (Answer by at))) (cc mine) (answer_by_message opening history by at (message_at history at) refl)
+    subst (λ h. Plays opening history h (Answer by at) (host_input history (Answer by at))) (cc mine) (answer_by_message opening history by at (message_at history at) refl enabled)
 event_plays opening history (Clean by at) host legal mine enabled short =
     subst (λ h. Plays opening history h (Clean by at) (host_input history (Clean by at))) (cc mine) (clean_by_output opening history by at (output_at history at) refl enabled)
 event_plays opening history (Pull by session) host legal mine enabled short =
-    subst (λ h. IsHostPlay opening history h (Pull by session) (PullInput session)) (cc mine) (pull_plays opening history by session)
+    subst (λ h. IsHostPlay opening history h (Pull by session) (PullInput session)) (cc mine) (pull_plays opening history by session enabled)
 event_plays opening history (TakeChunk by at) host legal mine enabled short =
     subst (λ h. Plays opening history h (TakeChunk by at) (host_input history (TakeChunk by at))) (cc mine) (take_by_message opening history by at (message_at history at) refl)
 event_plays opening history event host legal mine enabled short = tt

@@ -6,7 +6,7 @@ use Rattle.base_ids.specs.declared.ids.Actor.TheVariants.{Host as ByHost}
 use Rattle.base_ids.specs.declared.ids.HostId.{HostId}
 use Rattle.base_ids.specs.declared.ids.Session.{Session}
 use Rattle.group0_log.specs.Log.{command_at}
-use Rattle.host_core.specs.Host.{CanTake, HostView, begun_pull, chunk_pulls, first_host, host_after, host_out, restarted, with_begun}
+use Rattle.host_core.specs.Host.{CanTake, HostView, begun_pull, chunk_pulls, first_host, host_after, host_out, host_rule, restarted_host, with_begun}
 use Rattle.host_core.specs.Pulls.{Pulls, pull_in, without_pull}
 use Rattle.host_core.specs.declared.data.HostInput.{HostInput}
 use Rattle.host_core.specs.declared.data.HostInput.TheVariants.{Answer as AnswerInput, Apply as ApplyInput, Clean as CleanInput, Pull as PullInput, Quiet as QuietInput, Read as ReadInput, SendChunk, TakeChunk as ChunkInput, Write as WriteInput}
@@ -112,10 +112,11 @@ host_outputs host out = []
 
 -- ---- the laws
 
--- the host can take the input of the event, and by it comes to what the longer history says of it, with the outputs
--- that the event must have
+-- the host's state breaks no rule of the input of the event, and the host can take it, and by it comes to what the
+-- longer history says of it, with the outputs that the event must have
 pub record IsHostPlay
     (opening : Opening) (history : History) (host : HostId) (event : Event) (input : HostInput) : Type 0 where
+  pub rule : host_rule (host_view opening history host) input ≡ None
   pub fits : CanTake (host_view opening history host) input
   pub outputs : host_outputs host (host_out (host_view opening history host) input) ≡ outputs_of opening history event
   pub after :
@@ -156,7 +157,7 @@ abbrev pub HostsRestart : Type 0
 HostsRestart =
     (opening : Opening) (history : History) (host : HostId) →
     host_view opening (entry_of opening history (Restart (ByHost host)) ∷ history) host
-    ≡ restarted (host_view opening history host)
+    ≡ restarted_host (host_view opening history host)
 
 -- a host at the opening
 abbrev pub HostsBegin : Type 0

@@ -1,5 +1,5 @@
 -- A lane with what it has prepared, and what is known of its live requests.
-use Rattle.std.specs.Prelude.{◌≡◌, ◌≤◌, ℕ, List, Option, Some, IfSome}
+use Rattle.std.specs.Prelude.{◌≡◌, ◌≤◌, ℕ, List, Option, None, Some, IfSome}
 use Rattle.std.specs.List.{All}
 use Rattle.base_ids.specs.declared.ids.LaneId.{LaneId}
 use Rattle.base_ids.specs.declared.ids.OpId.{OpId}
@@ -11,7 +11,7 @@ use Rattle.lane_core.specs.declared.data.LaneInput.{LaneInput}
 use Rattle.lane_core.specs.declared.data.LaneInput.TheVariants.{Write, Read, Take, Timeout}
 use Rattle.lane_core.specs.declared.lane.Made.{Made}
 use Rattle.lane_core.specs.Work.{pending_in}
-use Rattle.lane_core.specs.Lane.{LaneView, next_request, lane_work, lane_out, IsFor}
+use Rattle.lane_core.specs.Lane.{LaneView, next_request, lane_rule, lane_work, lane_out, IsFor}
 
 -- a request of this name waits for answers, and is not decided
 pub record IsWaiting (lane : LaneId) (op : OpId) (work : Work) : Type 0 where
@@ -51,8 +51,9 @@ op_of lane (Read table token snapshot) = next_request lane
 op_of lane (Take answer) = answer.op
 op_of lane (Timeout op) = op
 
--- all that the input needs is there
+-- the input breaks no rule, and all that it needs is there
 pub record HasMade (lane : LaneHolding) (input : LaneInput) : Type 0 where
+  pub rule : lane_rule lane.core input ≡ None
   pub for_it : IsFor lane.core input
   pub made : lane.made ≡ Some (lane_made lane.core input)
   pub room : HasRoom lane.core lane.room input

@@ -260,7 +260,8 @@ impl LaneCore {
 
     /// Loses all live requests, and what was prepared. The count of begins stays. Takes no memory.
     pub fn restart(&mut self)
-        ensures { self.new.core ≡ lane_restarted self.old.core }
+        ensures core { self.new.core ≡ lane_restarted self.old.core }
+        ensures made { self.new.made ≡ None }
     {
         self.requests.clear();
         self.made = None;

@@ -17,8 +17,8 @@ pub enum Cleanup {
     NotMine,
 }
 
-/// What a cleanup for a session is on a host: `Cleaned` exactly where the state has the session in `cleanup` with its
-/// leaving replica on the host, or in `cleanup_target` with its pending one there.
+/// What a cleanup for a session is on a host: `Cleaned` on the leaving replica's host while the state has the session
+/// in `cleanup`, and on the pending replica's while it has it in `cleanup_target`; else `NotMine`.
 pub fn cleanup_of(host: HostId, state: &TopoState, session: Session) -> Cleanup
     ensures { result ≡ cleanup_of state.now host session }
 {

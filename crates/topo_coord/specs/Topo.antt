@@ -1,5 +1,5 @@
 -- A topology coordinator as plain data: what it has seen and heard, and what an input makes of it.
-use Rattle.std.specs.Prelude.{◌≤◌, ℕ, List, [], Option, None}
+use Rattle.std.specs.Prelude.{◌≡◌, ◌≤◌, ℕ, List, [], Option, None}
 use Rattle.barrier_core.specs.Facts.{noted_facts}
 use Rattle.barrier_core.specs.declared.data.Told.{Told}
 use Rattle.base_ids.specs.declared.ids.HostId.{HostId}
@@ -64,6 +64,7 @@ facts_noted (Hear fact) = 1
 facts_noted HearNotMine = 0
 facts_noted (Propose command) = 0
 
--- all memory that the input needs is there
-abbrev pub IsReady : TopoHolding → TopoInput → Type 0
-IsReady topo input = facts_noted input ≤ topo.room
+-- the input breaks no rule, and all memory that it needs is there
+pub record IsReady (topo : TopoHolding) (input : TopoInput) : Type 0 where
+  pub rule : topo_rule topo.core input ≡ None
+  pub room : facts_noted input ≤ topo.room

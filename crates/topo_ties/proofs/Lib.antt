@@ -1,3 +1,4 @@
+pub mod FoundLemmas
 pub mod SessionLemmas
 pub mod RuleLemmas
 pub mod TopoTies

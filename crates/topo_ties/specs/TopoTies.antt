@@ -1,13 +1,16 @@
 -- How a topology coordinator is tied to a history: what the history says of it as the coordinator's own plain data,
 -- what each event gives it, and what it then does.
-use Rattle.std.specs.Prelude.{List, None, Option, Some, [], false, length, ℕ, ◌∷◌, ◌≡◌}
-use Rattle.group0_log.specs.Log.{outcome_of}
+use Rattle.std.specs.Prelude.{List, None, Option, Some, [], false, length, ℕ, ◌∷◌, ◌≡◌, ◌≤◌}
+use Rattle.group0_log.specs.Log.{outcome_of, state_at}
 use Rattle.base_ids.specs.declared.ids.Actor.TheVariants.{Topo as ByTopo}
 use Rattle.base_ids.specs.declared.ids.HostId.{HostId}
+use Rattle.base_ids.specs.declared.ids.Session.{Session}
 use Rattle.base_ids.specs.declared.rules.Appended.{Appended}
 use Rattle.topo_state.specs.Rules.{rule}
 use Rattle.topo_state.specs.declared.command.Command.{Command}
 use Rattle.topo_state.specs.declared.command.Rule.{Rule}
+use Rattle.log_law.specs.Laws.{OfEachLog}
+use Rattle.migrate_core.specs.Laws.{IsFoundOnce}
 use Rattle.topo_coord.specs.Topo.{TopoView, topo_after, topo_first, topo_out, topo_restarted, topo_rule}
 use Rattle.topo_coord.specs.declared.data.TopoInput.{TopoInput}
 use Rattle.topo_coord.specs.declared.data.TopoInput.TheVariants.{Ask as AskInput, Hear as HearInput, HearNotMine, Look as LookInput, Propose as ProposeInput}
@@ -125,3 +128,9 @@ ProposalsAreJudged =
     IsLegalHistory opening history →
     broken_rule opening history (Propose host command)
     ≡ topo_rule (topo_view opening history host) (ProposeInput command)
+
+-- in each state of a legal log no other tablet moves under a session than the one at which it is found
+abbrev pub SessionsAreFoundOnce : Type 0
+SessionsAreFoundOnce =
+    OfEachLog (λ first log.
+    (count : ℕ) → count ≤ length log → (session : Session) → IsFoundOnce (state_at first log count) session)

@@ -1,5 +1,5 @@
 //! Laws of coordinators along histories. Each is a call that does nothing and ensures the law.
-ghost use Rattle.topo_ties.specs.TopoTies.{ProposalsAreJudged, ToposBegin, ToposHaveInputs, ToposPlay, ToposRestart, ToposStay};
+ghost use Rattle.topo_ties.specs.TopoTies.{ProposalsAreJudged, SessionsAreFoundOnce, ToposBegin, ToposHaveInputs, ToposPlay, ToposRestart, ToposStay};
 
 /// After an enabled event of a coordinator it is what the history says of it, and it gives out the event's outputs.
 pub fn law_topos_play()
@@ -29,4 +29,9 @@ pub fn law_topos_begin()
 /// The rule that a proposal breaks is the one that the coordinator finds.
 pub fn law_proposals_are_judged()
     ensures { ProposalsAreJudged }
+{}
+
+/// In each state of a legal log no other tablet moves under a session than the one at which it is found.
+pub fn law_sessions_are_found_once()
+    ensures { SessionsAreFoundOnce }
 {}

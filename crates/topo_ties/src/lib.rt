@@ -5,6 +5,6 @@
 mod laws;
 
 pub use laws::{
-    law_proposals_are_judged, law_topos_begin, law_topos_have_inputs, law_topos_play,
-    law_topos_restart, law_topos_stay,
+    law_proposals_are_judged, law_sessions_are_found_once, law_topos_begin, law_topos_have_inputs,
+    law_topos_play, law_topos_restart, law_topos_stay,
 };

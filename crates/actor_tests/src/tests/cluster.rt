@@ -207,8 +207,8 @@ impl Cluster {
         }
     }
 
-    /// The coordinator hears that each host has drained its version, and proposes a command. It is the session of what the
-    /// command begins.
+    /// The coordinator hears that each host has drained its version, and proposes a command. It is the session of what
+    /// the command begins.
     pub(crate) fn begin(&mut self, command: Command) -> Result<Session, Fail> {
         for _ in 0..3 {
             if let Some(host) = awaited_barrier(self.topo.evidence(), self.topo.state()) {
@@ -235,6 +235,18 @@ impl Cluster {
             self.act(next, session)?;
         }
         Err(Fail::from("the move does not get there"))
+    }
+
+    /// All that the resize of this number waits for is told, and it is not yet finalized.
+    pub(crate) fn ready(&mut self, number: Session) -> Result<(), Fail> {
+        for _ in 0..MOST_ACTS {
+            let next = plan_resize(self.topo.state(), self.topo.evidence(), TABLE, number);
+            if let Next::Propose(_) | Next::Nothing = next {
+                return Ok(());
+            }
+            self.act(next, number)?;
+        }
+        Err(Fail::from("the resize waits for ever"))
     }
 
     /// The resize of this number is carried out.

@@ -2,7 +2,6 @@
 ghost use Rattle.std.specs.Prelude.{IsTrue};
 ghost use Rattle.host_core.specs.Host.{CanApply, CanTake};
 ghost use Rattle.lane_core.specs.Lane.{IsFor};
-ghost use Rattle.topo_state.specs.Rules.{IsFit};
 
 use barrier_core::{Ask, Fact, What};
 use base_ids::{Appended, HostId, StateId};
@@ -18,28 +17,11 @@ use stream_core::{ChunkAsk, ChunkMsg, Took};
 use topo_coord::{TopoCore, TopoInput, TopoOut};
 use topo_state::Command;
 
-/// Whether a command that makes a table makes it of a size that there may be.
-fn is_fit(command: &Command) -> bool
-    ensures { IsTrue result → IsFit command.now }
-{
-    match command {
-        Command::CreateTable {
-            log2,
-            replicas,
-            table: _,
-        } => {
-            let count = replicas.as_slice().len();
-            *log2 <= 10 && count >= 1 && count <= 8
-        }
-        _ => true,
-    }
-}
-
 /// Whether the host may apply the command.
 fn can_apply<S: Store>(host: &HostCore<S>, command: &Command) -> bool
     ensures { IsTrue result → CanApply host.now.core command.now }
 {
-    if !is_fit(command) || host.applied() == u64::MAX || host.state().version().0 == u64::MAX {
+    if !command.is_fit() || host.applied() == u64::MAX || host.state().version().0 == u64::MAX {
         return false;
     }
     host.state().judge(command).is_ok()
@@ -192,7 +174,7 @@ pub(crate) fn append(
     read: StateId,
     command: Command,
 ) -> Result<(), Fail> {
-    if !is_fit(&command) || log.state().version().0 == u64::MAX {
+    if !command.is_fit() || log.state().version().0 == u64::MAX {
         return Err(Fail::from("the log cannot take the command"));
     }
     let command = Shared::new(alloc, command)?;

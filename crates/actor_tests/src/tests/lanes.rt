@@ -31,7 +31,7 @@ enum Act {
     Says(u64, u16, Said, Option<Reply>),
     /// A request is given up, and the client is told this, or nothing where it is not live.
     GivesUp(u64, Option<Reply>),
-    /// So many requests are live, none of them below version 2.
+    /// So many requests are live, all of them at version 2.
     Live(usize),
     /// It restarts.
     Restarts,
@@ -177,7 +177,11 @@ fn goes(lane: &mut LaneCore, snapshot: &Shared<Snapshot>, act: Act) -> Result<bo
         }
         Act::Says(op, from, said, reply) => Ok(answered(lane, op, from, said)? == reply),
         Act::GivesUp(op, reply) => Ok(given_up(lane, op)? == reply),
-        Act::Live(live) => Ok(lane.live() == live && !lane.live_below(Version(2))),
+        Act::Live(live) => Ok(
+            lane.live() == live
+                && !lane.live_below(Version(2))
+                && lane.live_below(Version(3)) == (live > 0),
+        ),
         Act::Restarts => {
             lane.restart();
             Ok(true)

@@ -6,10 +6,17 @@ use quorum_ops::Reply;
 use std::test::Fail;
 use topo_state::ResizeKind;
 
-/// The table is resized to the end. The logarithm of the count of its tablets then, and in how many runs host 1 has its
-/// cells.
-fn resized(cluster: &mut Cluster, kind: ResizeKind) -> Result<(Option<u8>, usize), Fail> {
+/// In how many runs host 1 has the table's cells.
+fn runs(cluster: &Cluster) -> Result<usize, Fail> {
+    Ok(cluster.host(HostId(1))?.store().run_count(TABLE))
+}
+
+/// The table is resized to the end. The runs of host 1 before the resize is finalized, the logarithm of the count of
+/// tablets after it, and the runs then.
+fn resized(cluster: &mut Cluster, kind: ResizeKind) -> Result<(usize, Option<u8>, usize), Fail> {
     let number = cluster.begin(Change::Resize(kind).command())?;
+    cluster.ready(number)?;
+    let before = runs(cluster)?;
     cluster.resize(number)?;
     cluster.catch_up()?;
     let log2 = cluster
@@ -17,16 +24,18 @@ fn resized(cluster: &mut Cluster, kind: ResizeKind) -> Result<(Option<u8>, usize
         .state()
         .table(TABLE)
         .map(|table| table.map.log2());
-    Ok((log2, cluster.host(HostId(1))?.store().run_count(TABLE)))
+    Ok((before, log2, runs(cluster)?))
 }
 
-/// Whether a resize gives the table tablets and runs of this many, and keeps its cells.
-fn goes(cluster: &mut Cluster, kind: ResizeKind, wanted: (u8, usize)) -> Result<bool, Fail> {
-    let (log2, runs) = resized(cluster, kind)?;
+/// Whether a resize gives the table runs of this many before it is finalized, then tablets and runs of this many, and
+/// keeps its cells.
+fn goes(cluster: &mut Cluster, kind: ResizeKind, wanted: (usize, u8, usize)) -> Result<bool, Fail> {
+    let (before, log2, after) = resized(cluster, kind)?;
     let found = cluster.read(token(-3)?)?;
     Ok(
-        log2 == Some(wanted.0)
-            && runs == wanted.1
+        before == wanted.0
+            && log2 == Some(wanted.1)
+            && after == wanted.2
             && cluster.cells(HostId(1))? == 6
             && found == Some(Reply::Read(Some(cell(-3)))),
     )
@@ -40,10 +49,10 @@ fn first_other(cluster: &mut Cluster) -> Result<Option<ResizeKind>, Fail> {
             .ok_or("no reply")?;
     }
     for (kind, wanted) in [
-        (ResizeKind::Split, (2, 4)),
-        (ResizeKind::Split, (3, 8)),
-        (ResizeKind::Merge, (2, 4)),
-        (ResizeKind::Keep, (2, 4)),
+        (ResizeKind::Split, (4, 2, 4)),
+        (ResizeKind::Split, (8, 3, 8)),
+        (ResizeKind::Merge, (8, 2, 4)),
+        (ResizeKind::Keep, (4, 2, 4)),
     ] {
         if !goes(cluster, kind, wanted)? {
             return Ok(Some(kind));
@@ -56,5 +65,14 @@ fn first_other(cluster: &mut Cluster) -> Result<Option<ResizeKind>, Fail> {
 fn a_table_is_split_and_merged(rt: HostRuntime) -> Result<(), Fail> {
     let mut cluster = Cluster::with_table(rt.alloc(), &[on(0), on(1)])?;
     assert_eq!(rt; first_other(&mut cluster)?, None);
+    Ok(())
+}
+
+#[test]
+fn a_table_that_is_made_has_a_run_for_each_tablet(rt: HostRuntime) -> Result<(), Fail> {
+    let mut cluster = Cluster::with_table(rt.alloc(), &[on(0), on(1)])?;
+    let before = runs(&cluster)?;
+    cluster.catch_up()?;
+    assert_eq!(rt; (before, runs(&cluster)?), (1, 2));
     Ok(())
 }

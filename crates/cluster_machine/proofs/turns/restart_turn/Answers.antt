@@ -14,7 +14,7 @@ pub returns-in-Lane-clause-tied : goal.returns-in-Lane-clause-tied
 returns-in-Lane-clause-tied c =
     rw c.lane_place-place.ensures (lane_restarted_so c.args.journal.now c.args.cluster.now.log c.args.cluster.now.snapshots.items c.args.cluster.now.hosts.items c.args.cluster.now.lanes.items c.args.cluster.now.topos.items c.push.new.self c.in-Lane.lane c.index_mut-in-Lane.result.now c.restart-in-Lane.new.self c.requires.tied
     (subst (λ actor. IsPlayableEvent c.args.journal.now (Restart actor)) c.in-Lane.is c.requires.playable) (rw c.lane_place-place.ensures at c.index_mut-in-Lane.ensures.value)
-    (restart_entries c.args.journal.now.entries c.push.new.self c.args.actor _ c.new.result c.in-Lane.is c.new.ensures c.in_ok-push.ensures.ok) c.restart-in-Lane.ensures)
+    (restart_entries c.args.journal.now.entries c.push.new.self c.args.actor _ c.new.result c.in-Lane.is c.new.ensures c.in_ok-push.ensures.ok) c.restart-in-Lane.ensures.core)
 
 pub returns-in-Topo-clause-tied : goal.returns-in-Topo-clause-tied
 returns-in-Topo-clause-tied c =
