@@ -9,7 +9,7 @@ use std::alloc::Global;
 use std::env::Args;
 use std::process::ExitCode;
 
-/// The words after the first argument, which is the program's name.
+/// The words after the first argument, which is the program's name. `NoMemory` comes where memory for them is refused.
 pub fn words_after_name(alloc: Global, mut args: Args) -> Result<Words, NoMemory>
     ensures { IfOk result (λ words. words ≡ map string_bytes (drop 1 (into_iter_items args))) }
 {

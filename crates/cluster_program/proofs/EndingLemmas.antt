@@ -1,10 +1,9 @@
 -- What came of a call, where its ending is told in other words.
-use Rattle.std.proofs.Common.{Err, List, None, Ok, Option, Result, Some, [], ap, append-nil, arith, inl, inr, refl, subst, sym, ℕ, ◌≡◌, ◌∙◌}
+use Rattle.std.proofs.Common.{Err, List, None, Ok, Option, Result, Some, [], ap, append-nil, inl, inr, refl, subst, sym, ℕ, ◌≡◌, ◌∙◌}
 use Rattle.base_ids.specs.declared.rules.EventRule.{EventRule}
 use Rattle.base_ids.specs.declared.rules.LimitName.{LimitName}
 use Rattle.cluster_history.specs.declared.data.Journal.{Journal}
 use Rattle.fault_io.specs.Counts.{SinkAccount}
-use Rattle.fault_io.specs.Written.{content_after}
 use Rattle.schedule_data.specs.declared.data.Schedule.{Schedule}
 use Rattle.schedule_play.specs.Play.{AtLimit, AtRule, IsFrontOf, IsPlay, Played, Stop, played}
 use Rattle.schedule_play.specs.declared.playing.PlayError.{PlayError}
@@ -79,10 +78,6 @@ stopped-by-memory error whole after ended is =
 
 -- ---- want of memory
 
-content_after-nothing : (content : Option (List ℕ)) → content ≡ content_after content []
-content_after-nothing None = refl
-content_after-nothing (Some bytes) = ap Some (sym (append-nil bytes))
-
 -- memory was refused before anything was written, and no opening was reached
 pub came-unopened :
     (ending : Ending) (journal : Journal) (outcome : Outcome) (a : SinkAccount) →
@@ -92,8 +87,7 @@ pub came-unopened :
 came-unopened ending journal outcome a is none = inr (record {
   status = ap (λ o. o.status) is;
   journal = inl (ap (λ o. o.journal) is ∙ none);
-  written = (0, omega arith, content_after-nothing a.content);
-  quiet = refl;
+  written = refl;
 })
 
 -- ---- texts
@@ -148,8 +142,7 @@ came-after :
 came-after ending journal outcome a is front = inr (record {
   status = ap (λ o. o.status) is;
   journal = inr (subst (λ j. IsFrontOf j ending.journal) (sym (ap (λ o. o.journal) is)) front);
-  written = (0, omega arith, content_after-nothing a.content);
-  quiet = refl;
+  written = refl;
 })
 
 pub came-front :

@@ -1,3 +1,4 @@
 pub mod EndingLemmas
 pub mod ReadingLemmas
 pub mod WritingLemmas
+pub mod OneEndingLemmas

@@ -87,6 +87,7 @@ pub answer-unread :
     IsAnswer [] ending outcome s s a b
 answer-unread ending outcome s a b came = record {
   bytes = record { content = before_left-nothing s.left; given = omega arith; calls = omega arith };
+  within = omega arith;
   answer = inl (refl, came);
   over = λ more. absurd (omega (arith, more));
 }

@@ -58,6 +58,7 @@ fault_ending line (PassesLimit name) = early Limit (limit_line name)
 
 -- ---- where a schedule is played
 
+-- the status of a play that stopped
 abbrev pub stop_status : Stop → Status
 stop_status (AtRule line rule) = NotEnabled
 stop_status (AtLimit name) = Limit
@@ -68,12 +69,13 @@ ending_at form journal None = record { status = Done; journal = journal; bytes =
 ending_at form journal (Some stop) =
     record { status = stop_status stop; journal = journal; bytes = concat (stopped_lines journal stop) }
 
+-- how the play of a schedule is to end
 abbrev pub play_ending : Form → Played → Ending
 play_ending form whole = ending_at form whole.journal whole.stop
 
 -- ---- the commands
 
--- at most so many bytes are read
+-- a text has at most so many bytes: one more may be taken, to know that the source has more
 abbrev pub input_limit : ℕ
 input_limit = 4194304
 

@@ -4,3 +4,4 @@ pub mod Endings
 pub mod Readings
 pub mod Outcomes
 pub mod Program
+pub mod OneEnding

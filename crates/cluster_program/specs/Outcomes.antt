@@ -1,5 +1,5 @@
 -- What came of a call that was to end so.
-use Rattle.std.specs.Prelude.{List, length, take, ℕ, ◌<◌, ◌≡◌, ◌≤◌, ◌⊎◌}
+use Rattle.std.specs.Prelude.{List, length, ℕ, ◌+◌, ◌<◌, ◌≡◌, ◌≤◌, ◌⊎◌}
 use Rattle.cluster_history.specs.declared.data.Journal.{Journal}
 use Rattle.fault_io.specs.Counts.{Rose, SinkAccount, SourceAccount}
 use Rattle.fault_io.specs.Given.{TakesBytes}
@@ -16,11 +16,6 @@ use Rattle.cluster_program.specs.declared.outcome.Outcome.{Outcome}
 use Rattle.cluster_program.specs.declared.status.Status.TheVariants.{Limit, NoMemory, Refused, WriteFault}
 
 -- ---- what was written
-
--- some of the bytes, from the first on, were added to a sink's content, or all or none of them
-abbrev pub AddsFront : SinkAccount → SinkAccount → List ℕ → Type 0
-AddsFront before after bytes =
-    (n : ℕ) × (n ≤ length bytes) × (after.content ≡ content_after before.content (take n bytes))
 
 -- the call ended as it was to, and no call of the sink failed
 pub record IsWhole (ending : Ending) (outcome : Outcome) (before after : SinkAccount) : Type 0 where
@@ -40,12 +35,11 @@ pub record IsCutShort (ending : Ending) (outcome : Outcome) (before after : Sink
 abbrev pub IsReached : Journal → Journal → Type 0
 IsReached journal whole = (journal ≡ no_journal) ⊎ IsFrontOf journal whole
 
--- memory was refused, before or while it was written, and no call of the sink failed
+-- memory was refused before anything was written, and the sink is as it was
 pub record IsStarved (ending : Ending) (outcome : Outcome) (before after : SinkAccount) : Type 0 where
   pub status : outcome.status ≡ status_number NoMemory
   pub journal : IsReached outcome.journal ending.journal
-  pub written : AddsFront before after ending.bytes
-  pub quiet : after.faults ≡ before.faults
+  pub written : after ≡ before
 
 -- what came of a call that takes no memory, and of the sink that it wrote to
 abbrev pub IsSaidOrCut : Ending → Outcome → SinkAccount → SinkAccount → Type 0
@@ -68,11 +62,12 @@ Answers ending outcome source_before source_after before after =
     (NoFault source_before source_after × CameTo ending outcome before after)
     ⊎ (Rose source_before.faults source_after.faults × IsSaidOrCut read_fault_ending outcome before after)
 
--- just these bytes were taken, and what was to come of them came; where they are more than are read no memory is asked
--- for
+-- just these bytes were taken, at most one more than are read, and what was to come of them came; where they are more
+-- than are read no memory is asked for
 pub record IsAnswer (taken : List ℕ) (ending : Ending) (outcome : Outcome) (source_before source_after : SourceAccount)
     (before after : SinkAccount) : Type 0 where
   pub bytes : TakesBytes source_before source_after taken
+  pub within : length taken ≤ input_limit + 1
   pub answer : Answers ending outcome source_before source_after before after
   pub over : input_limit < length taken → IsSaidOrCut input_ending outcome before after
 

@@ -60,6 +60,7 @@ abbrev pub is_move_end : Event → List Output → Bool
 is_move_end (Propose topo (Advance session None)) (Proposed (Accepted index) ∷ outputs) = true
 is_move_end event outputs = false
 
+-- the entry is the end of a move
 unfoldable pub ends_move : Entry → Bool
 ends_move entry = is_move_end entry.event entry.outputs
 
@@ -80,12 +81,13 @@ counts_line n events replies log version fence moved =
     ++ (codes " fence " ++ (decimal fence.0
     ++ (codes " moved " ++ (decimal moved ++ codes "\n")))))))))))))
 
+-- the line that sums up the play of a number's schedule
 abbrev pub summary_line : ℕ → Journal → List ℕ
 summary_line n journal =
     counts_line
     n
     (length journal.entries)
-    (reply_count journal.opening (history_of journal))
+    (reply_count (history_of journal))
     (length (log_of (history_of journal)))
     (last_state journal.opening (history_of journal)).version
     (last_state journal.opening (history_of journal)).fence

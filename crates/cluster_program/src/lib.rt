@@ -3,6 +3,7 @@
 #![tactic(auto)]
 
 mod endings;
+mod laws;
 mod opening;
 mod outcome;
 mod plays;
@@ -10,6 +11,7 @@ mod program;
 mod status;
 mod texts;
 
+pub use laws::law_calls_end_one_way;
 pub use outcome::Outcome;
 pub use program::{Words, cluster_main, gen_main, play_main};
 pub use status::Status;

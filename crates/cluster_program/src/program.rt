@@ -1,5 +1,5 @@
 //! The commands of the program.
-ghost use Rattle.std.specs.Prelude.{◌≡◌, ℕ, ◌≤◌, ◌≢◌, ◌∷◌, [], List, IfSome, None, Some};
+ghost use Rattle.std.specs.Prelude.{◌≡◌, ℕ, ◌≤◌, ◌≢◌, ◌∷◌, [], List, IfOk, IfSome, None, OnErr, Some};
 ghost use Rattle.std.specs.List.{concat};
 ghost use Rattle.cluster_history.specs.Legal.{IsLegalRun};
 ghost use Rattle.command_words.specs.Words.{asked_command};
@@ -9,7 +9,7 @@ ghost use Rattle.fault_io.specs.Written.{content_after};
 ghost use Rattle.overlap_law.specs.Headline.{IsHeadline};
 ghost use Rattle.report_text.specs.Report.{report};
 ghost use Rattle.cluster_program.specs.Endings.{IsCommandEnding, IsGenEnding, IsPlayEnding, usage_ending};
-ghost use Rattle.cluster_program.specs.Outcomes.{AnswersAs, CameAs, CameTo, IsAnswerAs, NoFault};
+ghost use Rattle.cluster_program.specs.Outcomes.{AnswersAs, CameAs, IsAnswerAs, IsSaidOrCut, NoFault};
 ghost use Rattle.cluster_program.specs.Program.{IsComplete};
 ghost use Rattle.cluster_program.specs.Texts.{summary_line};
 
@@ -18,7 +18,7 @@ use crate::outcome::{Outcome, no_journal, starved};
 use crate::plays::play_text;
 use crate::texts::Form;
 use base_ids::{Items, NoMemory, Text};
-use command_words::{Command, read_words};
+use command_words::{Command, is_command, read_words};
 use fault_io::{Sink, Source, read_all};
 use overlap_law::law_headline;
 use schedule_gen::schedule;
@@ -28,7 +28,7 @@ use std::alloc::Global;
 /// The words of a command, after the program's name.
 pub type Words = Items<Text>;
 
-/// At most so many bytes are read.
+/// A text has at most so many bytes. One more may be taken, to know that the source has more.
 const INPUT_LIMIT: usize = 4194304;
 
 /// Reads a schedule, plays it and writes its report. How it ends is a function of the text, which is what the source
@@ -36,12 +36,12 @@ const INPUT_LIMIT: usize = 4194304;
 /// with the rule that it breaks; 4, the report's lines so far, and the line whose event is not enabled with the first
 /// rule that it breaks; or 7 and the limit that is passed, behind the report's lines so far where it stops the play. A
 /// read fault gives 5, and wins over what the text says; a failed write gives 6 and leaves a part of what was to be
-/// written. Want of memory may give 8 while the text is read or played, and then some of the first bytes were written,
-/// and the journal has some of the first entries of the play.
+/// written. Want of memory may give 8 while the text is read or played or its lines are made, and then nothing was
+/// written, and the journal has no opening or some of the first entries of the play.
 pub fn play_main<S: Source, K: Sink>(alloc: Global, source: &mut S, sink: &mut K) -> Outcome
     // The journal that is kept is a legal run. In it no read returns less than a write of its key that was acknowledged
     // before it began, and it returns none or a cell that such a write began with; a request is stale only below
-    // fences of as many hosts as leave too few, and given up only where fewer replicas than required had answered;
+    // fences of as many hosts as leave too few, and given up only where too few of its targets had answered;
     // and what clients saw is a run of the register machine.
     ensures legal { IsLegalRun result.journal }
     ensures headline { IsHeadline result.journal }
@@ -85,7 +85,7 @@ pub fn play_main<S: Source, K: Sink>(alloc: Global, source: &mut S, sink: &mut K
 pub fn gen_main<K: Sink>(alloc: Global, n: u64, sink: &mut K) -> Outcome
     // The journal that is kept is a legal run. In it no read returns less than a write of its key that was acknowledged
     // before it began, and it returns none or a cell that such a write began with; a request is stale only below
-    // fences of as many hosts as leave too few, and given up only where fewer replicas than required had answered;
+    // fences of as many hosts as leave too few, and given up only where too few of its targets had answered;
     // and what clients saw is a run of the register machine.
     ensures legal { IsLegalRun result.journal }
     ensures headline { IsHeadline result.journal }
@@ -116,8 +116,20 @@ pub fn gen_main<K: Sink>(alloc: Global, n: u64, sink: &mut K) -> Outcome
     }
 }
 
+/// The command that the words ask for. `NoMemory` comes only for words that ask for one.
+fn command_of(alloc: Global, words: &[Text]) -> Result<Option<Command>, NoMemory>
+    ensures asked { IfOk result (λ command. command ≡ asked_command words.now) }
+    ensures memory { OnErr result (asked_command words.now ≢ None) }
+{
+    if is_command(words) {
+        read_words(alloc, words)
+    } else {
+        Ok(None)
+    }
+}
+
 /// Does what the words say: `play` is `play_main`, `gen N` is `gen_main`, and other words give the usage line and
-/// status 2. Only `play` reads.
+/// status 2, and never want of memory. Only `play` reads.
 pub fn cluster_main<S: Source, K: Sink>(
     alloc: Global,
     words: &Words,
@@ -126,14 +138,14 @@ pub fn cluster_main<S: Source, K: Sink>(
 ) -> Outcome
     // The journal that is kept is a legal run. In it no read returns less than a write of its key that was acknowledged
     // before it began, and it returns none or a cell that such a write began with; a request is stale only below
-    // fences of as many hosts as leave too few, and given up only where fewer replicas than required had answered;
+    // fences of as many hosts as leave too few, and given up only where too few of its targets had answered;
     // and what clients saw is a run of the register machine.
     ensures legal { IsLegalRun result.journal }
     ensures headline { IsHeadline result.journal }
 
     // Words that are no command give the usage line, and nothing is read but by `play`.
     ensures usage { asked_command words.now ≡ None →
-        CameTo usage_ending result (K.account sink.old) (K.account sink.new) }
+        IsSaidOrCut usage_ending result (K.account sink.old) (K.account sink.new) }
     ensures unread { asked_command words.now ≢ Some Play → S.account source.new ≡ S.account source.old }
     ensures unread_by_gen { (n : ℕ) → asked_command words.now ≡ Some (Gen n) → result.status ≢ 5 }
 
@@ -161,7 +173,7 @@ pub fn cluster_main<S: Source, K: Sink>(
     ensures write_later { (K.account sink.old).faults ≤ (K.account sink.new).faults }
 {
     law_texts_are_read();
-    match read_words(alloc, words.as_slice()) {
+    match command_of(alloc, words.as_slice()) {
         Ok(Some(Command::Play)) => play_main(alloc, source, sink),
         Ok(Some(Command::Gen(n))) => gen_main(alloc, n, sink),
         Ok(None) => {

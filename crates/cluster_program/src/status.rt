@@ -4,13 +4,13 @@ ghost use Rattle.std.specs.Prelude.{◌≡◌};
 /// With which status the program ends.
 #[derive(Clone, Copy, Debug, PartialEq, Eq)]
 pub enum Status {
-    /// All was read, played and written.
+    /// The command was carried out to its end.
     Done,
     /// The words name no command.
     Usage,
     /// The text is not in the grammar.
     Refused,
-    /// An event is not enabled.
+    /// An event or a shorthand of the text breaks a rule.
     NotEnabled,
     /// The source failed.
     ReadFault,

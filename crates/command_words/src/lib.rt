@@ -6,4 +6,4 @@ mod program;
 mod texts;
 mod words;
 
-pub use words::{Command, read_words};
+pub use words::{Command, is_command, read_words};

@@ -1,5 +1,5 @@
 //! The words of a command.
-ghost use Rattle.std.specs.Prelude.{◌≡◌, IfOk, map, option_map, true};
+ghost use Rattle.std.specs.Prelude.{◌≡◌, IfOk, is_some, map, option_map, true};
 ghost use Rattle.std.specs.List.{list_all};
 ghost use Rattle.clap.specs.Words.{subcommand_rows_of};
 ghost use Rattle.command_words.specs.Program.{command_found, command_named, is_plain};
@@ -20,6 +20,19 @@ pub enum Command {
     Play,
     /// To make the schedule of this number, and play it.
     Gen(u64),
+}
+
+/// Whether the words after the program's name ask for a command. It takes no memory.
+#[tactic(auto, unfolding(crate::specs::Words::number_of))]
+pub fn is_command(words: &[Text]) -> bool
+    ensures { result ≡ is_some (asked_command words.now) }
+{
+    match words {
+        [word] => word.as_slice() == b"play".as_slice(),
+        [word, number] => word.as_slice() == b"gen".as_slice()
+            && number_of(number.as_slice()).is_some(),
+        _ => false,
+    }
 }
 
 /// The command of this name, with the word of its number.

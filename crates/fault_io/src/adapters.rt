@@ -125,8 +125,8 @@ impl<R: Read> In for CountedReader<R> {
     }
 }
 
-/// A writer of std with counts of the bytes that were written, of those that were flushed, and of its failures. A write
-/// that takes nothing of a piece that is not empty counts as a failure.
+/// A writer of std that counts its written bytes, its flushed bytes and its failures. A write that is given bytes and
+/// takes none of them has failed too.
 #[derive(Drop)]
 pub struct CountedWriter<W> {
     writer: W,

@@ -62,8 +62,8 @@ impl Model for MemorySource {
 }
 
 impl MemorySource {
-    /// A source of these bytes that gives at most `piece` of them in a call, and fails at the calls that `fail_at`
-    /// numbers, from 1.
+    /// A source of these bytes. A call gives `piece` of them at most, and fails where `fail_at` has its number; the
+    /// first call is 1.
     pub fn new(bytes: Vec<u8>, piece: usize, fail_at: Vec<u64>) -> MemorySource
         requires { 0 < piece }
         ensures { result ≡ record {
@@ -151,9 +151,9 @@ impl Model for MemorySink {
 }
 
 impl MemorySink {
-    /// A sink with room for `room` bytes, which are set aside at once. It takes at most `piece` bytes in a call, fails
-    /// at the calls that `fail_at` numbers, from 1, and at each piece once its room is full. `NoMemory` comes where
-    /// that room cannot be had.
+    /// A sink with room for `room` bytes, which are set aside at once. A call takes `piece` bytes at most. It fails
+    /// where `fail_at` has its number, with 1 for the first call, and once the room is full for any byte more.
+    /// `NoMemory` comes where that room cannot be had.
     pub fn new(
         alloc: Global,
         piece: usize,

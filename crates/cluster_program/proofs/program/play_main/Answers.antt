@@ -26,6 +26,7 @@ returns-in-Ok-clause-taken g c = (
     play-ending c.law_texts_are_read.ensures.schedules c.law_texts_are_read.ensures.faults c.in-Ok.bytes.items,
     record {
       bytes = c.in-Ok.ensures.ok;
+      within = omega (arith, c.in-Ok.ensures.within);
       answer = answers-read
           c.in-Ok.bytes.items
           c.play_text-outcome.result
