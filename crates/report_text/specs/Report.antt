@@ -1,7 +1,7 @@
--- The report of a journal: a line for each reply, for what became of each proposal, for each pull that is done and for
--- what each cleanup came to, in the order of the journal, and an end line.
+-- The report of a journal: replies, what became of proposals, pulls that are done, and what cleanups came to, one on a
+-- line and ordered as the journal has them; a last line counts.
 use Rattle.std.specs.Fmt.{decimal, signed_decimal}
-use Rattle.std.specs.List.{flat_map}
+use Rattle.std.specs.List.{count_by, flat_map}
 use Rattle.std.specs.Prelude.{Bool, List, None, Option, Some, [], codes, false, if◌then◌else◌, length, option_to_list, true, ℕ, ℤ, ◌++◌, ◌+◌, ◌∷◌}
 use Rattle.hex.specs.Hex.{encode_lower}
 use Rattle.barrier_core.specs.declared.data.What.{What}
@@ -37,11 +37,12 @@ use Rattle.cluster_history.specs.declared.data.Output.TheVariants.{Proposed, Pul
 
 -- ---- replies
 
--- a cell: its timestamp, and its bytes as two lower-case digits each or its time of deletion
+-- the timestamp of a cell, and its bytes as two lower-case digits each or its time of deletion
 abbrev pub body_text : ℤ → Body → List ℕ
 body_text timestamp (Live bytes) = codes "live:" ++ (signed_decimal timestamp ++ (codes ":" ++ encode_lower bytes))
 body_text timestamp (Dead time) = codes "dead:" ++ (signed_decimal timestamp ++ (codes ":" ++ decimal time))
 
+-- a cell: live:TIMESTAMP:HEX or dead:TIMESTAMP:TIME
 abbrev pub cell_text : Cell → List ℕ
 cell_text cell = body_text cell.timestamp cell.body
 
@@ -59,6 +60,7 @@ result_text (TimedOut answered required) = codes "timeout " ++ (decimal answered
 result_text NoTable = codes "notable"
 result_text NoMember = codes "notmember"
 
+-- whether the request reads or writes
 abbrev pub kind_text : Kind → List ℕ
 kind_text ReadKind = codes "read"
 kind_text WriteKind = codes "write"
@@ -102,19 +104,23 @@ outcome_text version (Accepted index) = codes "accepted " ++ (decimal index ++ (
 outcome_text version (Conflict last) = codes "conflict " ++ decimal last.0
 outcome_text version (Illegal rule) = codes "illegal " ++ rule_word rule
 
+-- the line of a proposal: the coordinator, and what became of it
 abbrev pub proposal_line : HostId → Version → Appended Rule → List ℕ
 proposal_line topo version outcome =
     codes "topo " ++ (decimal topo.0 ++ (codes " " ++ (outcome_text version outcome ++ codes "\n")))
 
 -- ---- pulls and cleanups
 
+-- the line of a pull that is done: the host that pulled, and the session
 abbrev pub pull_line : HostId → Session → List ℕ
 pull_line host session = codes "pull " ++ (decimal host.0 ++ (codes " " ++ (decimal session.0 ++ codes " done\n")))
 
+-- the line of a cleanup that was done: the host, and the session
 abbrev pub cleaned_line : HostId → Session → List ℕ
 cleaned_line host session =
     codes "clean " ++ (decimal host.0 ++ (codes " " ++ (decimal session.0 ++ codes " cleaned\n")))
 
+-- the line of a cleanup that was asked of a host which the session does not clean
 abbrev pub not_mine_line : HostId → Session → List ℕ
 not_mine_line host session =
     codes "clean " ++ (decimal host.0 ++ (codes " " ++ (decimal session.0 ++ codes " notmine\n")))
@@ -136,16 +142,18 @@ abbrev pub chunk_line : HostId → Output → Option (List ℕ)
 chunk_line host (Pulled session) = Some (pull_line host session)
 chunk_line host output = None
 
--- of a host that cleans: what its range had is dropped, or the session cleans nothing there
+-- of a fact that a cleanup tells: the range is clean
 abbrev pub fact_line : HostId → What → Option (List ℕ)
 fact_line host (CleanOf session) = Some (cleaned_line host session)
 fact_line host what = None
 
+-- of a message that a cleanup sends: the range is clean, or the session cleans nothing there
 abbrev pub told_line : HostId → Message → Option (List ℕ)
 told_line host (FactSent fact) = fact_line host fact.what
 told_line host (NotMine from to session) = Some (not_mine_line host session)
 told_line host message = None
 
+-- of a host that cleans
 abbrev pub clean_line : HostId → Output → Option (List ℕ)
 clean_line host (Sent message) = told_line host message
 clean_line host output = None
@@ -176,22 +184,28 @@ history_lines opening [] = []
 history_lines opening (entry ∷ history) =
     history_lines opening history ++ entry_lines (log_version opening (entry ∷ history)) entry
 
--- the lines of a lane's events are replies
+-- an event of a lane: its outputs are asks and replies
 abbrev pub is_of_lane : Event → Bool
 is_of_lane (Begin lane operation version) = true
 is_of_lane (Take lane at) = true
 is_of_lane (Timeout lane op) = true
 is_of_lane event = false
 
--- how many of the lines are replies
-abbrev pub reply_count : Opening → History → ℕ
-reply_count opening [] = 0
-reply_count opening (entry ∷ history) =
-    if is_of_lane entry.event
-    then reply_count opening history + length (entry_lines (log_version opening (entry ∷ history)) entry)
-    else reply_count opening history
+-- an output is what a client is told
+abbrev pub is_reply : Output → Bool
+is_reply (Replied op version kind reply) = true
+is_reply output = false
 
--- the count of replies, that of accepted commands, and the version and the fence of the log's state
+-- how many replies an entry has: those of a lane, and none of others
+abbrev pub entry_replies : Entry → ℕ
+entry_replies entry = if is_of_lane entry.event then count_by is_reply entry.outputs else 0
+
+-- how many replies the entries of a history have
+abbrev pub reply_count : History → ℕ
+reply_count [] = 0
+reply_count (entry ∷ history) = reply_count history + entry_replies entry
+
+-- the end line: how many replies and accepted commands there are, and the version and the fence of the last state
 abbrev pub end_line : ℕ → ℕ → Version → Version → List ℕ
 end_line replies log version fence =
     codes "end replies "
@@ -199,17 +213,19 @@ end_line replies log version fence =
     ++ (codes " log " ++ (decimal log
     ++ (codes " version " ++ (decimal version.0 ++ (codes " fence " ++ (decimal fence.0 ++ codes "\n")))))))
 
+-- the end line of a history
 abbrev pub history_end : Opening → History → List ℕ
 history_end opening history =
     end_line
-    (reply_count opening history)
+    (reply_count history)
     (length (log_of history))
     (last_state opening history).version
     (last_state opening history).fence
 
--- the lines of a journal, each with its line feed, without the end line and with it
+-- the lines of a journal without the end line, each with its line feed
 abbrev pub report_lines : Journal → List (List ℕ)
 report_lines journal = history_lines journal.opening (history_of journal)
 
+-- the whole report of a journal: those lines, and the end line
 abbrev pub report : Journal → List (List ℕ)
 report journal = report_lines journal ++ history_end journal.opening (history_of journal) ∷ []

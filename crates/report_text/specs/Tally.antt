@@ -1,5 +1,5 @@
 -- What the end line tells, kept up entry by entry: no state of the topology is needed for it.
-use Rattle.std.specs.Prelude.{Bool, None, Option, Some, if◌then◌else◌, length, ℕ, ◌+◌, ◌≡◌}
+use Rattle.std.specs.Prelude.{None, Option, Some, length, ◌+◌, ◌≡◌}
 use Rattle.base_ids.specs.declared.ids.Version.{Version}
 use Rattle.cluster_history.specs.History.{History}
 use Rattle.cluster_history.specs.Topology.{last_state, log_of}
@@ -11,7 +11,7 @@ use Rattle.report_text.specs.declared.report.Tally.{Tally}
 
 -- it tells of a history
 pub record IsTally (opening : Opening) (history : History) (tally : Tally) : Type 0 where
-  pub replies : tally.replies ≡ reply_count opening history
+  pub replies : tally.replies ≡ reply_count history
   pub log : tally.log ≡ length (log_of history)
   pub version : tally.version ≡ (last_state opening history).version
   pub fence : tally.fence ≡ (last_state opening history).fence
@@ -24,7 +24,3 @@ tally_by tally (Some fence) = record tally { log = tally.log + 1; fence = fence 
 abbrev pub tally_after : Tally → Option Command → Tally
 tally_after tally None = tally
 tally_after tally (Some command) = tally_by tally (fence_set command)
-
--- and so many replies more, where the event is one of a lane
-abbrev pub replies_after : ℕ → Bool → ℕ → ℕ
-replies_after replies of_lane added = if of_lane then replies + added else replies

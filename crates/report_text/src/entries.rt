@@ -1,6 +1,7 @@
 //! The lines of an entry.
+ghost use Rattle.std.specs.List.{count_by};
 ghost use Rattle.std.specs.Prelude.{◌≡◌, ◌++◌, option_to_list, IfOk, OnOk};
-ghost use Rattle.report_text.specs.Report.{lane_line, topo_line, chunk_line, told_line, clean_line, output_line, entry_lines, is_of_lane};
+ghost use Rattle.report_text.specs.Report.{lane_line, topo_line, chunk_line, told_line, clean_line, output_line, entry_lines, is_of_lane, is_reply, entry_replies};
 
 use crate::report::LineList;
 use crate::texts::{cleaned_line, not_mine_line, proposal_line, pull_line, reply_line};
@@ -107,7 +108,7 @@ fn output_line(
 }
 
 /// Whether the event is one of a lane.
-pub(crate) fn is_of_lane(event: &Event) -> bool
+fn is_of_lane(event: &Event) -> bool
     ensures { result ≡ is_of_lane event.now }
 {
     match event {
@@ -124,6 +125,40 @@ pub(crate) fn is_of_lane(event: &Event) -> bool
         | Event::Hear { .. }
         | Event::Propose { .. }
         | Event::Restart { .. } => false,
+    }
+}
+
+/// Whether an output is what a client is told.
+fn is_reply(output: &Output) -> bool
+    ensures { result ≡ is_reply output.now }
+{
+    match output {
+        Output::Reply { .. } => true,
+        Output::Sent(_) | Output::Pulled { .. } | Output::Proposed(_) => false,
+    }
+}
+
+/// How many of the outputs are replies.
+fn reply_outputs(outputs: &[Output]) -> usize
+    ensures { result ≡ count_by is_reply outputs.now }
+{
+    let mut replies = 0;
+    for output in outputs {
+        if is_reply(output) {
+            replies += 1;
+        }
+    }
+    replies
+}
+
+/// How many replies an entry has: those of a lane, and none of others.
+pub(crate) fn entry_replies(entry: &Entry) -> usize
+    ensures { result ≡ entry_replies entry.now }
+{
+    if is_of_lane(&entry.event) {
+        reply_outputs(entry.outputs.as_slice())
+    } else {
+        0
     }
 }
 

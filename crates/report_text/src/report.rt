@@ -3,10 +3,10 @@ ghost use Rattle.std.specs.Prelude.{◌≡◌, ◌+◌, ◌-◌, ◌<◌, ◌^�
 ghost use Rattle.topo_state.specs.After.{fence_set};
 ghost use Rattle.cluster_history.specs.Legal.{history_of};
 ghost use Rattle.cluster_history.specs.Topology.{accepted_command};
-ghost use Rattle.report_text.specs.Report.{is_of_lane, report_lines, report};
-ghost use Rattle.report_text.specs.Tally.{IsTally, tally_after, replies_after};
+ghost use Rattle.report_text.specs.Report.{report_lines, report};
+ghost use Rattle.report_text.specs.Tally.{IsTally, tally_after};
 
-use crate::entries::{add_entry, is_of_lane};
+use crate::entries::{add_entry, entry_replies};
 use crate::texts::end_line;
 use base_ids::{Appended, Items, Line, NoMemory, Version};
 use cluster_history::{Entry, Event, Journal, Output};
@@ -19,7 +19,7 @@ pub type LineList = Items<Line>;
 /// What the end line tells of the entries so far.
 #[derive(Clone, Copy)]
 pub struct Tally {
-    /// The count of lines that are replies.
+    /// The count of replies of lanes.
     pub replies: usize,
     /// The count of accepted commands.
     pub log: u64,
@@ -82,18 +82,6 @@ fn tally_after(tally: Tally, command: Option<&Command>) -> Tally
     }
 }
 
-/// The count of replies with the lines of an event, which are replies where it is one of a lane.
-fn replies_after(replies: usize, event: &Event, added: usize) -> usize
-    requires { replies + added < 2 ^ 64 }
-    ensures { result ≡ replies_after replies (is_of_lane event.now) added }
-{
-    if is_of_lane(event) {
-        replies + added
-    } else {
-        replies
-    }
-}
-
 /// The lines of the entries, and what the end line tells.
 fn told(alloc: Global, journal: &Journal) -> Result<(LineList, Tally), NoMemory>
     ensures lines { IfOk result (λ told. told.0 ≡ report_lines journal.now) }
@@ -108,15 +96,15 @@ fn told(alloc: Global, journal: &Journal) -> Result<(LineList, Tally), NoMemory>
     };
     for entry in journal.entries.as_slice() {
         tally = tally_after(tally, accepted_command(entry));
-        let before = lines.as_slice().len();
         add_entry(alloc, tally.version, entry, &mut lines)?;
-        let added = lines.as_slice().len() - before;
-        tally.replies = replies_after(tally.replies, &entry.event, added);
+        let replies = entry_replies(entry);
+        prove!(replies <= lines.as_slice().len() - tally.replies);
+        tally.replies += replies;
     }
     Ok((lines, tally))
 }
 
-/// The report of the journal without its end line.
+/// The report of the journal without its end line. `NoMemory` comes where memory for its lines is refused.
 pub fn report_lines(alloc: Global, journal: &Journal) -> Result<LineList, NoMemory>
     ensures { IfOk result (λ lines. lines ≡ report_lines journal.now) }
 {
@@ -124,7 +112,7 @@ pub fn report_lines(alloc: Global, journal: &Journal) -> Result<LineList, NoMemo
     Ok(lines)
 }
 
-/// The report of the journal.
+/// The report of the journal. `NoMemory` comes where memory for its lines is refused.
 pub fn lines(alloc: Global, journal: &Journal) -> Result<LineList, NoMemory>
     ensures { IfOk result (λ lines. lines ≡ report journal.now) }
 {
@@ -134,7 +122,7 @@ pub fn lines(alloc: Global, journal: &Journal) -> Result<LineList, NoMemory>
     Ok(lines)
 }
 
-/// What the end line of the journal's report tells.
+/// What the end line of the journal's report tells. `NoMemory` comes where memory for that is refused.
 pub fn end_tally(alloc: Global, journal: &Journal) -> Result<Tally, NoMemory>
     ensures { IfOk result (λ tally. IsTally journal.now.opening (history_of journal.now) tally) }
 {

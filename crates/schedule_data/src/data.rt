@@ -156,7 +156,7 @@ pub enum LineEvent {
     },
 }
 
-/// Stands for events that are chosen one after the other from the journal so far. A coordinator is named by its host.
+/// Stands for several events, each of which depends on the journal before it. A coordinator is named by its host.
 #[derive(Debug, Drop)]
 pub enum Shorthand {
     /// Each host applies the whole log.

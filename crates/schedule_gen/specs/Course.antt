@@ -70,10 +70,12 @@ course_after_advance moving None course = record course {
 
 -- ---- a round
 
+-- the text of a step: a start where no move goes on, else its next stage
 abbrev pub step_text : Option TabletMove → Course → List ℕ
 step_text None course = start_text course
 step_text (Some moving) course = advance_text moving
 
+-- the course after a step
 abbrev pub course_after_step : Option TabletMove → Course → Course
 course_after_step None course = course_after_start course
 course_after_step (Some moving) course = course_after_advance moving (next_forward moving.stage) course
@@ -85,6 +87,7 @@ action_text Read round course = read_line course.generator
 action_text Delete round course = delete_line round course.generator
 action_text Step round course = step_text course.moving course
 
+-- the course after an action, for which as many numbers are drawn as its line needs
 abbrev pub course_after_action : Action → Course → Course
 course_after_action Write course = record course { generator = generator_after 3 course.generator }
 course_after_action Read course = record course { generator = generator_after 2 course.generator }

@@ -4,7 +4,7 @@ use Rattle.std.specs.List.{list_any}
 use Rattle.stage_graph.specs.declared.stage.Stage.{Stage}
 use Rattle.stage_graph.specs.declared.stage.Stage.TheVariants.{AllowWriteBothReadOld, WriteBothReadOld, Streaming, WriteBothReadNew, UseNew, Cleanup, EndMigration, FallbackCleanup, CleanupTarget, RevertMigration}
 
--- the next stage of the way forward, which a start enters at the first; at its end there is none
+-- the stage behind this one where a move goes well: a start is at the first of them, and behind the last there is none
 abbrev pub next_forward : Stage → Option Stage
 next_forward AllowWriteBothReadOld = Some WriteBothReadOld
 next_forward WriteBothReadOld = Some Streaming
@@ -18,6 +18,7 @@ next_forward FallbackCleanup = None
 next_forward CleanupTarget = None
 next_forward RevertMigration = None
 
+-- the five hosts of a made schedule
 abbrev pub all_hosts : List ℕ
 all_hosts = 0 ∷ 1 ∷ 2 ∷ 3 ∷ 4 ∷ []
 

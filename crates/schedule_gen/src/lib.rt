@@ -27,7 +27,8 @@ go
 const ROUNDS: u16 = 1000;
 
 /// The schedule of a number: a header, and a thousand rounds drawn from the generator of that number, each of which
-/// is a write, a read, a deletion or a step of a tablet's move. Source: this project's own.
+/// is a write, a read, a deletion or a step of a tablet's move. `NoMemory` comes where memory for it is refused.
+/// Source: this project's own.
 pub fn schedule(alloc: Global, n: u64) -> Result<Vec<u8>, NoMemory>
     ensures { IfOk result (λ text. text.items ≡ schedule_text n) }
 {

@@ -1,7 +1,7 @@
 -- Each line of a header keeps it sound.
 use Rattle.std.proofs.Common.{◌≡◌, ℕ, ◌+◌, ◌<◌, ◌≤◌, ◌^◌, not, nat_lt, nat_le, Bool, true, false, List, [], ◌∷◌, ◌++◌, length, Option, Some, None, Result, Ok, Err, refl, sym, subst, ◌∙◌, arith}
 use Rattle.std.specs.List.{All}
-use Rattle.std.specs.Prelude.{is_some, is_none}
+use Rattle.std.specs.Prelude.{IfOk, is_some, is_none}
 use Rattle.std.proofs.lemmas.Bool.Decides.{nat_tests}
 use Rattle.std.proofs.lemmas.List.{length-append}
 use Rattle.std.proofs.lemmas.List.Elements.{All-nil, All-push}
@@ -13,17 +13,21 @@ use Rattle.tablet_map.specs.Calls.{new_tablets}
 use Rattle.topo_state.specs.declared.data.Table.{Table}
 use Rattle.topo_state.specs.Tables.{table_in, tablet_count}
 use Rattle.text_grammar.specs.declared.faults.Fault.{Fault}
+use Rattle.text_grammar.specs.declared.faults.LineError.{LineError}
 use Rattle.text_grammar.specs.declared.faults.TextRule.TheVariants.{BadHeader}
 use Rattle.text_grammar.specs.Judging.{if_so, if_within}
 use Rattle.text_grammar.specs.Readings.{◌>>=◌, reading}
-use Rattle.text_grammar.specs.Shapes.{Is}
+use Rattle.text_grammar.specs.Results.{Gives}
+use Rattle.text_grammar.specs.Shapes.{Is, Shape}
 use Rattle.text_grammar.proofs.TellLaws.{AllTell, all_weaker, is_so, is_within, read_tells}
 use Rattle.schedule_words.specs.Words.{header_word, is_empty}
 use Rattle.schedule_words.specs.declared.verbs.HeaderVerb.{HeaderVerb}
 use Rattle.schedule_words.specs.declared.verbs.HeaderVerb.TheVariants.{Tablets as TabletsWord, Hosts as HostsWord, Lanes as LanesWord, Shards as ShardsWord, Members as MembersWord, Table as TableWord, Tablet as TabletWord, Go as GoWord}
 use Rattle.schedule_header.specs.Header.{Header, no_header, Said, SaidTable, SaidTablet, TabletLine, host_count, may_stand, is_before_members, after_said, Step, step_of}
-use Rattle.schedule_header.specs.Forms.{new_table, table_size, table_line, replicas_line, count_line, members_line, tablet_line, line_by, verb_if, header_line}
+use Rattle.schedule_header.specs.Forms.{new_table, table_size, table_line, replicas_line, count_line, members_line, tablet_line, line_by, first_word, verb_if, header_line}
+use Rattle.schedule_header.specs.Code.{step_by, step_in}
 use Rattle.schedule_header.specs.Sound.{AreMembers, ground_of, AreReplicas, IsTableHere, IsSoundHeader, IsSoundStep}
+use Rattle.schedule_header.specs.declared.state.HeaderStep.{HeaderStep}
 use Rattle.schedule_header.proofs.ReplicaLemmas.{replicas_tell, members_tell}
 use Rattle.schedule_header.proofs.SizeLemmas.{log2_few}
 use Rattle.schedule_header.proofs.TableLemmas.{new_here, new_count, new_size, new_distinct, placed_distinct, placed_length, placed_count, all_placed}
@@ -218,11 +222,15 @@ unfolding header_line
 line_keeps header sound = λ w verb is. by_verb header sound verb (may_there header (header_word w) verb is)
 
 -- so does each that is read
-step_keeps : (header : Header) (words : List (List ℕ)) → IsSoundHeader header → (found : Result Said Fault) → reading (header_line header) words ≡ found → (step : Step) → (found >>= λ said. Ok (step_of header said)) ≡ Ok step → IsSoundStep step
-step_keeps header words sound (Ok said) e step h =
+step_keeps : (header : Header) (shape : Shape Said) (words : List (List ℕ)) → AllTell (KeepsSound header) shape → (found : Result Said Fault) → reading shape words ≡ found → (step : Step) → (found >>= λ said. Ok (step_of header said)) ≡ Ok step → IsSoundStep step
+step_keeps header shape words all (Ok said) e step h =
     let same : step_of header said ≡ step = cc in
-    subst IsSoundStep same (read_tells (KeepsSound header) (header_line header) words said (line_keeps header sound) e)
-step_keeps header words sound (Err fault) e step h = absurd (cc)
+    subst IsSoundStep same (read_tells (KeepsSound header) shape words said all e)
+step_keeps header shape words all (Err fault) e step h = absurd (cc)
 
-pub next_sound : (header : Header) (words : List (List ℕ)) (step : Step) → IsSoundHeader header → (reading (header_line header) words >>= λ said. Ok (step_of header said)) ≡ Ok step → IsSoundStep step
-next_sound header words step sound e = step_keeps header words sound (reading (header_line header) words) refl step e
+-- and each that the code makes
+pub given_step : (header : Header) (word : List ℕ) (verb : HeaderVerb) (words : List (List ℕ)) (r : Result HeaderStep LineError) → IsSoundHeader header → first_word header word ≡ Ok verb → Gives step_in r (step_by header verb words) → IfOk r (λ step. IsSoundStep (step_in step))
+given_step header word verb words (Ok step) sound may gives =
+    step_keeps header (line_by header verb) words (by_verb header sound verb (may_there header (header_word word) verb may))
+    (reading (line_by header verb) words) refl (step_in step) gives
+given_step header word verb words (Err error) sound may gives = tt

@@ -17,7 +17,7 @@ use Rattle.text_grammar.specs.declared.faults.TextRule.TheVariants.{BadHeader, B
 use Rattle.text_grammar.specs.declared.faults.Fault.{Fault}
 use Rattle.text_grammar.specs.declared.faults.Fault.TheVariants.{Refused}
 use Rattle.text_grammar.specs.Shapes.{Place, Known, Judged, Shape, End, Word, Each, Made, Whole}
-use Rattle.text_grammar.specs.Readings.{given, ◌>>=◌}
+use Rattle.text_grammar.specs.Readings.{or_rule, ◌>>=◌}
 use Rattle.text_grammar.specs.Judging.{if_so, if_within}
 use Rattle.schedule_words.specs.Places.{number, host, log2, table_number, tablet_number, next_replica}
 use Rattle.schedule_words.specs.Words.{header_word}
@@ -31,6 +31,7 @@ use Rattle.schedule_header.specs.Header.{Header, Said, SaidHosts, SaidLanes, Sai
 abbrev pub count_by : ℕ → LimitName → ℕ → Result ℕ Fault
 count_by most name n = if_within (nat_le n most) name n >>= λ m. if_so (nat_le 1 m) BadHeader m
 
+-- N, a count from 1 to the most that is allowed; `limit` is that of its type
 unfoldable pub count : ℕ → ℕ → LimitName → Place ℕ
 count limit most name = Judged (number limit) (count_by most name)
 
@@ -66,11 +67,12 @@ replicas_line header = Each (table_replica header) (λ replicas. replicas)
 
 -- ---- tables
 
--- T, the number of a table that is not there yet
+-- the table is not there yet, and there are fewer than 64
 abbrev pub new_table_by : List Table → TableId → Result TableId Fault
 new_table_by tables id =
     if_so (not (is_some (table_in tables id))) BadHeader id >>= λ new. if_within (nat_lt (length tables) 64) Tables new
 
+-- T, the number of a table that is not there yet
 unfoldable pub new_table : List Table → Place TableId
 new_table tables = Judged table_number (new_table_by tables)
 
@@ -86,13 +88,14 @@ table_line header =
 
 -- T, the number of a table that is there
 unfoldable pub named_table : List Table → Place Table
-named_table tables = Judged table_number (λ id. given BadHeader (table_in tables id))
+named_table tables = Judged table_number (λ id. or_rule BadHeader (table_in tables id))
 
--- I, a tablet of the table that has had no line of its own
+-- the table has the tablet, which has had no line of its own
 abbrev pub may_place : Header → Table → TabletId → Bool
 may_place header table tablet =
     nat_lt tablet.0 (length table.map.list) && not (is_placed header.placed table.id tablet)
 
+-- I, a tablet of the table that has had no line of its own
 unfoldable pub named_tablet : Header → Table → Place TabletId
 named_tablet header table = Judged tablet_number (λ tablet. if_so (may_place header table tablet) BadHeader tablet)
 
@@ -104,6 +107,7 @@ tablet_line header =
 
 -- ---- lines
 
+-- what stands behind the first word of a line
 abbrev pub line_by : Header → HeaderVerb → Shape Said
 line_by header TabletsWord = Whole (λ _. Err (Refused BadHeader))
 line_by header HostsWord = Made (count_line (2 ^ 16) 64 Hosts) SaidHosts
@@ -114,11 +118,12 @@ line_by header TableWord = Made (table_line header) SaidTable
 line_by header TabletWord = Made (tablet_line header) SaidTablet
 line_by header GoWord = End SaidGo
 
--- the first word of a line
+-- a word of the header, where a line that begins with it may stand
 abbrev pub verb_if : Header → Option HeaderVerb → Result HeaderVerb Fault
 verb_if header None = Err (Refused BadWord)
 verb_if header (Some verb) = if_so (may_stand header verb) BadHeader verb
 
+-- the first word of a line
 abbrev pub first_word : Header → List ℕ → Result HeaderVerb Fault
 first_word header word = verb_if header (header_word word)
 

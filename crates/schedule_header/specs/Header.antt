@@ -38,6 +38,7 @@ pub record Header : Type 0 where
   pub tables : List Table
   pub placed : List (TableId × TabletId)
 
+-- nothing is said yet
 abbrev pub no_header : Header
 no_header = record { hosts = None; lanes = None; shards = None; members = None; tables = []; placed = [] }
 
@@ -48,7 +49,7 @@ abbrev pub hosts_under : ℕ → List HostId
 hosts_under zero = []
 hosts_under (suc n) = hosts_under n ++ record { 0 = n } ∷ []
 
--- one shard for each host, and all hosts as members, where the header says nothing of them
+-- what the header says, and where it says nothing: no hosts, no lanes, one shard on each host, all hosts as members
 abbrev pub host_count : Header → ℕ
 host_count header = unwrap_or header.hosts 0
 
@@ -93,10 +94,11 @@ may_stand header GoWord = is_some header.hosts && is_some header.lanes
 
 -- ---- what a line changes
 
--- the tablet has had a line of its own
+-- the place is this tablet of this table
 abbrev pub is_placed_at : TableId → TabletId → TableId × TabletId → Bool
 is_placed_at table tablet place = same_table table place.0 && (tablet.0 == place.1.0)
 
+-- the tablet has had a line of its own
 abbrev pub is_placed : List (TableId × TabletId) → TableId → TabletId → Bool
 is_placed placed table tablet = list_any (is_placed_at table tablet) placed
 
@@ -104,11 +106,13 @@ is_placed placed table tablet = list_any (is_placed_at table tablet) placed
 abbrev pub placed_in : TabletLine → Table → Table
 placed_in line table = record table { map = with_tablet table.map line.tablet.0 (at_rest line.replicas) }
 
+-- the tables with that change in the table of this number
 abbrev pub placed_tables : TabletLine → List Table → List Table
 placed_tables line [] = []
 placed_tables line (table ∷ rest) =
     if same_table line.table table.id then placed_in line table ∷ rest else table ∷ placed_tables line rest
 
+-- what the header has said behind a line
 abbrev pub after_said : Header → Said → Header
 after_said header (SaidHosts n) = record header { hosts = Some n }
 after_said header (SaidLanes n) = record header { lanes = Some n }
@@ -127,6 +131,7 @@ pub data Step : Type 0 where
   More : Header → Step
   Opened : Opening → Step
 
+-- what a line does: `go` ends the header, and each other line adds to it
 abbrev pub step_of : Header → Said → Step
 step_of header SaidGo = Opened (opening_of header)
 step_of header said = More (after_said header said)

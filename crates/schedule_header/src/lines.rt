@@ -5,7 +5,7 @@ ghost use Rattle.text_grammar.specs.Readings.{reading};
 ghost use Rattle.text_grammar.specs.Results.{Gives};
 ghost use Rattle.schedule_header.specs.Header.{no_header, is_before_members, may_stand, opening_of};
 ghost use Rattle.schedule_header.specs.Forms.{first_word, is_first};
-ghost use Rattle.schedule_header.specs.Sound.{IsSoundHeader};
+ghost use Rattle.schedule_header.specs.Sound.{IsSoundHeader, IsSoundStep};
 ghost use Rattle.schedule_header.specs.Code.{header_in, step_in, step_by, next_step};
 ghost use Rattle.schedule_words.specs.declared.verbs.HeaderVerb.TheVariants.{Tablet as TabletWord};
 
@@ -174,7 +174,8 @@ fn line_by(
 #[tactic(auto, unfolding(crate::specs::Forms::header_line))]
 pub fn header_line(alloc: Global, header: HeaderState, line: &[u8]) -> Result<HeaderStep, LineError>
     requires { IsSoundHeader (header_in header) }
-    ensures { Gives step_in result (next_step (header_in header) (words_of line.now)) }
+    ensures read { Gives step_in result (next_step (header_in header) (words_of line.now)) }
+    ensures sound { IfOk result (λ step. IsSoundStep (step_in step)) }
 {
     let (word, words) = next_word(line)?;
     let verb = first_word(&header, word)?;

@@ -44,7 +44,7 @@ use Rattle.schedule_words.specs.Places.{by_entry, by_label, has_lane, host, lane
 use Rattle.schedule_words.specs.Words.{is_letter}
 use Rattle.schedule_words.specs.declared.counts.Counts.{Counts}
 use Rattle.text_grammar.proofs.TellLaws.{AllTell, all_tell, each_keeps, is_so, is_within}
-use Rattle.text_grammar.specs.Readings.{given}
+use Rattle.text_grammar.specs.Readings.{or_rule}
 use Rattle.text_grammar.specs.Shapes.{AreEach, Each, Either, End, EndOr, Is, Made, Place, Shape, Spells, Whole, Word, begins_with}
 use Rattle.text_grammar.specs.declared.faults.Fault.{Fault}
 use Rattle.text_grammar.specs.declared.faults.TextRule.TheVariants.{BadActor, NoLabel}
@@ -93,10 +93,10 @@ lane_in opening counts same w l is =
 same_told : {A : Type 0} {a b : A} → ◌≡◌ {A = Result A Fault} (Ok a) (Ok b) → a ≡ b
 same_told e = cc
 
-labelled : (labels : LineOf) (name : List ℕ) (number : ℕ) → given NoLabel (labels name) ≡ Ok number → labels name ≡ Some number
+labelled : (labels : LineOf) (name : List ℕ) (number : ℕ) → or_rule NoLabel (labels name) ≡ Ok number → labels name ≡ Some number
 labelled labels name number e = go (labels name) e
   where
-    go : (found : Option ℕ) → given NoLabel found ≡ Ok number → found ≡ Some number
+    go : (found : Option ℕ) → or_rule NoLabel found ≡ Ok number → found ≡ Some number
     go None e = cc
     go (Some line) e = cc
 

@@ -61,6 +61,7 @@ write more = Word table_number (λ t. Word token (λ k. Word cell (λ c. more (W
 unfoldable pub read_form : {A : Type 0} → (Operation → Shape A) → Shape A
 read_form more = Word table_number (λ t. Word token (λ k. more (Read t k)))
 
+-- what stands behind the word of an operation
 abbrev pub operation_by : {A : Type 0} → (Operation → Shape A) → OperationVerb → Shape A
 operation_by more WriteVerb = write more
 operation_by more ReadVerb = read_form more
@@ -102,6 +103,7 @@ resize = Word table_number (λ t. Word resize_kind (λ kind. End (Resize t kind)
 unfoldable pub finalize : Shape Command
 finalize = Word table_number (λ t. Word session (λ s. End (FinalizeResize t s)))
 
+-- what stands behind the word of a command
 abbrev pub command_by : CommandVerb → Shape Command
 command_by CreateVerb = create
 command_by StartVerb = start
@@ -159,6 +161,7 @@ begin counts =
     (lane counts)
     (λ l. operation (λ op. EndOr (Begin l op None) (Made at_version (λ v. Begin l op (Some v)))))
 
+-- what stands behind the word of an event, by its actor: a lane's, a host's or a coordinator's
 abbrev pub lane_event : Counts → LineOf → LaneVerb → Shape LineEvent
 lane_event counts labels BeginVerb = begin counts
 lane_event counts labels TakeVerb = Made (of_lane_message counts labels) (λ x. Take x.0 x.1)
@@ -173,13 +176,15 @@ host_event counts labels CleanVerb = Made (of_message counts labels) (λ x. Clea
 host_event counts labels PullVerb = Made (of_session counts) (λ x. Pull x.0 x.1)
 host_event counts labels ChunkVerb = Made (of_message counts labels) (λ x. TakeChunk x.0 x.1)
 
--- V, or S
+-- V
 unfoldable pub what_version : Shape Version
 what_version = Word version (λ v. End v)
 
+-- S
 unfoldable pub what_session : Shape Session
 what_session = Word session (λ s. End s)
 
+-- what stands behind the word of what is asked
 abbrev pub what_by : WhatVerb → Shape What
 what_by DrainAsk = Made what_version DrainVersion
 what_by FenceAsk = Made what_version FenceVersion
@@ -205,6 +210,7 @@ topo_event counts labels ProposeVerb = Made (of_command counts) (λ x. Propose x
 unfoldable pub of_lane : Counts → Shape LaneId
 of_lane counts = Word (lane counts) (λ l. End l)
 
+-- what stands behind the kind of an actor
 abbrev pub actor_by : Counts → ActorWord → Shape Actor
 actor_by counts HostWord = Made (of_host counts) ByHost
 actor_by counts LaneWord = Made (of_lane counts) ByLane
@@ -214,6 +220,7 @@ actor_by counts TopoWord = Made (of_host counts) ByTopo
 unfoldable pub actor : Counts → Shape Actor
 actor counts = Word (one_of actor_word) (actor_by counts)
 
+-- what stands behind the word of any event
 abbrev pub event_by : Counts → LineOf → EventVerb → Shape LineEvent
 event_by counts labels (LaneEvent verb) = lane_event counts labels verb
 event_by counts labels (HostEvent verb) = host_event counts labels verb
@@ -230,6 +237,7 @@ event counts labels = Word (one_of event_word) (event_by counts labels)
 unfoldable pub do_form : Counts → Shape Shorthand
 do_form counts = Word (lane counts) (λ l. operation (λ op. End (Do l op)))
 
+-- what stands behind the word of a shorthand
 abbrev pub short_by : Counts → ShortVerb → Shape Shorthand
 short_by counts SyncVerb = End Sync
 short_by counts DoVerb = do_form counts
@@ -254,10 +262,12 @@ abbrev pub new_label : LineOf → Option (List ℕ) → Result First Fault
 new_label labels None = Err (Refused BadWord)
 new_label labels (Some name) = if_so (not (is_some (labels name))) LabelTwice (OfLabel name)
 
+-- the word of a shorthand, or else a new label
 abbrev pub by_short : LineOf → List ℕ → Option ShortVerb → Result First Fault
 by_short labels word (Some verb) = Ok (OfShort verb)
 by_short labels word None = new_label labels (label_of word)
 
+-- the word of an event, or else that of a shorthand or a new label
 abbrev pub by_event : LineOf → List ℕ → Option EventVerb → Result First Fault
 by_event labels word (Some verb) = Ok (OfEvent verb)
 by_event labels word None = by_short labels word (short_word word)

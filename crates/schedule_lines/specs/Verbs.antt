@@ -23,9 +23,11 @@ use Rattle.schedule_words.specs.Words.{meaning}
 
 -- ---- events
 
+-- the words of a lane's events
 abbrev pub lane_word : List ℕ → Option LaneVerb
 lane_word word = meaning ((codes "begin", Begin) ∷ (codes "take", Take) ∷ (codes "timeout", Timeout) ∷ []) word
 
+-- the words of a host's events, and which of them a word is
 abbrev pub host_words : List (List ℕ × HostVerb)
 host_words =
     (codes "apply", Apply)
@@ -40,6 +42,7 @@ host_words =
 abbrev pub host_word : List ℕ → Option HostVerb
 host_word word = meaning host_words word
 
+-- the words of a coordinator's events, and which of them a word is
 abbrev pub topo_words : List (List ℕ × TopoVerb)
 topo_words =
     (codes "look", Look) ∷ (codes "ask", Ask) ∷ (codes "hear", Hear) ∷ (codes "propose", Propose) ∷ []
@@ -56,7 +59,7 @@ event_word word =
     (option_map Host (host_word word))
     (option_or (option_map Topo (topo_word word)) (meaning ((codes "restart", Restart) ∷ []) word)))
 
--- what is asked of a host
+-- the words for what is asked of a host, and which of them a word is
 abbrev pub what_words : List (List ℕ × WhatVerb)
 what_words =
     (codes "drain", Drain)
@@ -69,14 +72,17 @@ what_words =
 abbrev pub what_word : List ℕ → Option WhatVerb
 what_word word = meaning what_words word
 
+-- the kinds of actors, of which one restarts
 abbrev pub actor_word : List ℕ → Option ActorWord
 actor_word word = meaning ((codes "host", OfHost) ∷ (codes "lane", OfLane) ∷ (codes "topo", OfTopo) ∷ []) word
 
+-- the operations of clients
 abbrev pub operation_word : List ℕ → Option OperationVerb
 operation_word word = meaning ((codes "write", Write) ∷ (codes "read", Read) ∷ []) word
 
 -- ---- commands
 
+-- the words of commands, and which of them a word is
 abbrev pub command_words : List (List ℕ × CommandVerb)
 command_words =
     (codes "create", Create)
@@ -94,6 +100,7 @@ command_word word = meaning command_words word
 
 -- ---- shorthands
 
+-- the words of shorthands, and which of them a word is
 abbrev pub short_words : List (List ℕ × ShortVerb)
 short_words =
     (codes "sync", Sync)

@@ -5,29 +5,43 @@ ghost use Rattle.schedule_lines.specs.Verbs.{actor_word, command_word, event_wor
 /// The first word of an event of a lane.
 #[derive(Clone, Copy)]
 pub enum LaneVerb {
+    /// The word `begin`.
     Begin,
+    /// The word `take`.
     Take,
+    /// The word `timeout`.
     Timeout,
 }
 
 /// The first word of an event of a host.
 #[derive(Clone, Copy)]
 pub enum HostVerb {
+    /// The word `apply`.
     Apply,
+    /// The word `quiet`.
     Quiet,
+    /// The word `serve`.
     Serve,
+    /// The word `answer`.
     Answer,
+    /// The word `clean`.
     Clean,
+    /// The word `pull`.
     Pull,
+    /// The word `chunk`.
     Chunk,
 }
 
 /// The first word of an event of a coordinator.
 #[derive(Clone, Copy)]
 pub enum TopoVerb {
+    /// The word `look`.
     Look,
+    /// The word `ask`.
     Ask,
+    /// The word `hear`.
     Hear,
+    /// The word `propose`.
     Propose,
 }
 
@@ -47,52 +61,79 @@ pub enum EventVerb {
 /// The first word of a shorthand.
 #[derive(Clone, Copy)]
 pub enum ShortVerb {
+    /// The word `sync`.
     Sync,
+    /// The word `do`.
     Do,
+    /// The word `drain`.
     Drain,
+    /// The word `fence`.
     Fence,
+    /// The word `step`.
     Step,
+    /// The word `force`.
     Force,
+    /// The word `stream`.
     Stream,
+    /// The word `tidy`.
     Tidy,
+    /// The word `ready`.
     Ready,
 }
 
 /// The first word of a command.
 #[derive(Clone, Copy)]
 pub enum CommandVerb {
+    /// The word `create`.
     Create,
+    /// The word `start`.
     Start,
+    /// The word `advance`.
     Advance,
+    /// The word `fence`.
     Fence,
+    /// The word `join`.
     Join,
+    /// The word `leave`.
     Leave,
+    /// The word `resize`.
     Resize,
+    /// The word `finalize`.
     Finalize,
 }
 
 /// The first word of an operation.
 #[derive(Clone, Copy)]
 pub enum OperationVerb {
+    /// The word `write`.
     Write,
+    /// The word `read`.
     Read,
 }
 
 /// The first word of what is asked of a host.
 #[derive(Clone, Copy)]
 pub enum WhatVerb {
+    /// The word `drain`.
     Drain,
+    /// The word `fence`.
     Fence,
+    /// The word `done`.
     Done,
+    /// The word `clean`.
     Clean,
+    /// The word `ready`.
     Ready,
 }
 
 /// The word for a kind of actor.
 #[derive(Clone, Copy)]
 pub enum ActorWord {
+    /// The word `host`.
     Host,
+    /// The word `lane`.
     Lane,
+    /// The word `topo`.
     Topo,
 }
 

@@ -43,7 +43,7 @@ use Rattle.schedule_play.proofs.FitLemmas.{fit_both}
 use Rattle.schedule_play.proofs.MemberLemmas.{member_has}
 use Rattle.schedule_play.proofs.TargetLemmas.{on_host}
 use Rattle.schedule_play.specs.Fits.{AreFit}
-use Rattle.schedule_play.specs.Shorthands.{ask_moves, drain_host, drain_moves, each_host, fence_host, fence_moves, has_decision, host_to_clean, is_concerned, is_placed_on, moves_of, propose_moves, raise_fence, readied, ready_host, streamed, sync_moves, tidied}
+use Rattle.schedule_play.specs.Shorthands.{ask_moves, drain_host, drain_moves, each_host, fence_host, fence_moves, has_decision, host_to_clean, is_concerned, is_placed_on, moves_of, propose_moves, raise_fence, moves_to_ready, ready_host, moves_to_stream, sync_moves, moves_to_tidy}
 use Rattle.schedule_play.specs.declared.moves.Move.{Move}
 use Rattle.schedule_play.specs.declared.moves.Move.TheVariants.{CatchUp}
 
@@ -152,19 +152,19 @@ is_fit : (opening : Opening) (entries : ℕ) (moves chosen : List Move) → AreF
 is_fit opening entries moves chosen fit e = subst (AreFit opening entries) (same_some moves chosen e) fit
 
 stream_fit : (opening : Opening) (entries : ℕ) (topo : HostId) (session : Session) (found : Option Relocation) (moves : List Move) → HasHost opening topo
-    → ((move : Relocation) → found ≡ Some move → IsBetween opening move) → option_map (streamed topo session) found ≡ Some moves → AreFit opening entries moves
+    → ((move : Relocation) → found ≡ Some move → IsBetween opening move) → option_map (moves_to_stream topo session) found ≡ Some moves → AreFit opening entries moves
 stream_fit opening entries topo session None moves by hosts e = cc e
 stream_fit opening entries topo session (Some move) moves by hosts e =
     let at = hosts move refl in
-    is_fit opening entries (streamed topo session move) moves
+    is_fit opening entries (moves_to_stream topo session move) moves
     (at.pending, ((at.pending, at.leaving), asked_fit opening entries topo move.transition.pending.host (Done session) by at.pending)) e
 
 tidied_fit : (opening : Opening) (entries : ℕ) (topo : HostId) (session : Session) (found : Option HostId) (moves : List Move) → HasHost opening topo
-    → ((host : HostId) → found ≡ Some host → HasHost opening host) → option_map (tidied topo session) found ≡ Some moves → AreFit opening entries moves
+    → ((host : HostId) → found ≡ Some host → HasHost opening host) → option_map (moves_to_tidy topo session) found ≡ Some moves → AreFit opening entries moves
 tidied_fit opening entries topo session None moves by hosts e = cc e
 tidied_fit opening entries topo session (Some host) moves by hosts e =
     let has = hosts host refl in
-    is_fit opening entries (tidied topo session host) moves (has, ((by, has), (has, (by, tt)))) e
+    is_fit opening entries (moves_to_tidy topo session host) moves (has, ((by, has), (has, (by, tt)))) e
 
 tidy_host : (opening : Opening) (found : Option Relocation) (host : HostId) → ((move : Relocation) → found ≡ Some move → IsBetween opening move)
     → option_and_then (λ (move : Relocation). cleaned_host move.transition) found ≡ Some host → HasHost opening host
@@ -174,10 +174,10 @@ tidy_host opening (Some move) host hosts e =
     cleaned_is opening move.transition.stage move.transition host at.leaving at.pending e
 
 ready_fit : (opening : Opening) (entries : ℕ) (topo : HostId) (number : Session) (found : Option Table) (moves : List Move) → HasHost opening topo
-    → option_map (readied opening topo number) found ≡ Some moves → AreFit opening entries moves
+    → option_map (moves_to_ready opening topo number) found ≡ Some moves → AreFit opening entries moves
 ready_fit opening entries topo number None moves by e = cc e
 ready_fit opening entries topo number (Some table) moves by e =
-    is_fit opening entries (readied opening topo number table) moves
+    is_fit opening entries (moves_to_ready opening topo number table) moves
     (each_fit opening entries (ready_host topo number table) (λ host has.
     or_none opening entries (is_placed_on table host) _ (has, asked_fit opening entries topo host (ReadyFor number) by has))) e
 

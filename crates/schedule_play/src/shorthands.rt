@@ -7,7 +7,7 @@ ghost use Rattle.cluster_history.specs.Openings.{HasLane};
 ghost use Rattle.base_ids.specs.Replicas.{has_host, is_on};
 ghost use Rattle.topo_state.specs.State.{is_member};
 ghost use Rattle.schedule_data.specs.Playable.{HasOwner};
-ghost use Rattle.schedule_play.specs.Shorthands.{ask_moves, do_moves, drain_host, drain_moves, each_host, fence_host, fence_moves, force_moves, has_decision, host_to_clean, is_concerned, is_placed_on, moves_of, propose_moves, raise_fence, readied, ready_host, step_moves, streamed, sync_moves, tidied};
+ghost use Rattle.schedule_play.specs.Shorthands.{ask_moves, do_moves, drain_host, drain_moves, each_host, fence_host, fence_moves, force_moves, has_decision, host_to_clean, is_concerned, is_placed_on, moves_of, propose_moves, raise_fence, moves_to_ready, ready_host, step_moves, moves_to_stream, sync_moves, moves_to_tidy};
 
 use crate::copies::copy_operation;
 use crate::moves::{Move, MoveList, Streaming, Target};
@@ -253,7 +253,7 @@ fn add_stream(
     session: Session,
     found: &Relocation,
 ) -> Result<(), NoMemory>
-    ensures { OnOk result (moves.new ≡ moves.old ++ streamed topo session found.now) }
+    ensures { OnOk result (moves.new ≡ moves.old ++ moves_to_stream topo session found.now) }
 {
     let host = found.transition.pending.host;
     let from = found.transition.leaving.host;
@@ -283,7 +283,7 @@ fn add_tidy(
     session: Session,
     host: HostId,
 ) -> Result<(), NoMemory>
-    ensures { OnOk result (moves.new ≡ moves.old ++ tidied topo session host) }
+    ensures { OnOk result (moves.new ≡ moves.old ++ moves_to_tidy topo session host) }
 {
     let what = What::Clean(session);
     moves.push(Move::CatchUp(host))?;
@@ -317,7 +317,7 @@ fn add_ready(
     session: Session,
     table: &Table,
 ) -> Result<(), NoMemory>
-    ensures { OnOk result (moves.new ≡ moves.old ++ readied opening.now topo session table.now) }
+    ensures { OnOk result (moves.new ≡ moves.old ++ moves_to_ready opening.now topo session table.now) }
 {
     for number in 0..opening.hosts {
         add_ready_host(moves, topo, session, table, HostId(number))?;

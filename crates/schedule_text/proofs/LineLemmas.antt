@@ -9,7 +9,7 @@ use Rattle.text_grammar.specs.Judging.{if_so}
 use Rattle.text_grammar.specs.Shapes.{Either, Spells}
 use Rattle.text_grammar.specs.Readings.{◌>>=◌, reading}
 use Rattle.text_grammar.specs.Lines.{Line, is_comment, are_ascii, Makes, Leads}
-use Rattle.text_grammar.specs.Folds.{passed, told_or, at_line, line_reading}
+use Rattle.text_grammar.specs.Folds.{is_passed_over, told_or, at_line, line_reading}
 use Rattle.text_grammar.proofs.LineLaws.{Said as GrammarSaid, said, passed_or_told}
 use Rattle.text_grammar.proofs.TellLaws.{all_tell}
 use Rattle.schedule_header.specs.Header.{Header, Said as HeaderSaid, Step, More, Opened, step_of}
@@ -53,8 +53,8 @@ by_passed number state words (Ok true) = refl
 by_passed number state words (Ok false) = told_is_next number state words
 by_passed number state words (Err fault) = refl
 
-pub line_is_next : (number : ℕ) (state : State) (words : Line) → line_reading schedules number state words ≡ (passed words >>= passed_next number state words)
-line_is_next number state words = passed_or_told schedules number state words ∙ by_passed number state words (passed words)
+pub line_is_next : (number : ℕ) (state : State) (words : Line) → line_reading schedules number state words ≡ (is_passed_over words >>= passed_next number state words)
+line_is_next number state words = passed_or_told schedules number state words ∙ by_passed number state words (is_passed_over words)
 
 -- ---- what keeps the state sound
 

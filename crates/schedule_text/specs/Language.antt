@@ -57,6 +57,7 @@ after_act number body said =
       lines = body.lines ++ record { line = number; act = said.1 } ∷ [];
     }
 
+-- the state behind a line of this number
 abbrev pub after_line : ℕ → State → LineSaid → State
 after_line number Nothing said = InHeader no_header
 after_line number (InHeader header) (SaidHeader said) = state_behind (step_of header said)
@@ -69,5 +70,6 @@ finish Nothing = Err (Refused NoHeader)
 finish (InHeader header) = Err (Refused NoGo)
 finish (InBody body) = Ok (record { opening = body.opening; lines = body.lines })
 
+-- the language: which line may stand next, what it makes, and what the text says in the end
 abbrev pub schedules : Language State LineSaid Schedule
 schedules = record { shape = form_at; after = after_line; finish = finish }

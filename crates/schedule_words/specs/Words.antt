@@ -21,6 +21,7 @@ meaning (entry ∷ table) word = if bytes_eq word entry.0 then Some entry.1 else
 
 -- ---- words of the header
 
+-- the words of the lines of a header, and which of them a word is
 abbrev pub header_words : List (List ℕ × HeaderVerb)
 header_words =
     (codes "tablets", Tablets)
@@ -38,9 +39,11 @@ header_word word = meaning header_words word
 
 -- ---- words inside lines
 
+-- the words of cells, with a value or deleted
 abbrev pub body_word : List ℕ → Option BodyKind
 body_word word = meaning ((codes "live", LiveWord) ∷ (codes "dead", DeadWord) ∷ []) word
 
+-- the words of decisions for a table
 abbrev pub resize_word : List ℕ → Option ResizeKind
 resize_word word = meaning ((codes "split", Split) ∷ (codes "merge", Merge) ∷ (codes "keep", Keep) ∷ []) word
 
@@ -64,7 +67,7 @@ is_letter byte = nat_le 97 byte && nat_le byte 122
 abbrev pub is_letter_or_digit : ℕ → Bool
 is_letter_or_digit byte = if is_letter byte then true else nat_le 48 byte && nat_le byte 57
 
--- a lower-case letter, and at most 15 lower-case letters or digits
+-- a label: 1 to 16 lower-case letters or digits, of which the first is a letter
 abbrev pub is_name : List ℕ → Bool
 is_name [] = false
 is_name (first ∷ others) = is_letter first && (nat_le (length others) 15 && list_all is_letter_or_digit others)

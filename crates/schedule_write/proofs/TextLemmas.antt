@@ -1,13 +1,13 @@
 -- Words and lines that are put together from parts.
 use Rattle.std.proofs.Common.{List, [], ap, append-nil, append_assoc, refl, sym, ℕ, ◌++◌, ◌∙◌, ◌∷◌, ◌≡◌}
 use Rattle.std.specs.List.{flat_map}
-use Rattle.schedule_write.specs.Words.{line_text, spaced}
+use Rattle.schedule_write.specs.Words.{line_text, spaced_words}
 
-pub spaced-append : (one other : List (List ℕ)) → spaced (one ++ other) ≡ spaced one ++ spaced other
+pub spaced-append : (one other : List (List ℕ)) → spaced_words (one ++ other) ≡ spaced_words one ++ spaced_words other
 spaced-append [] other = refl
 spaced-append (word ∷ one) other =
     ap (λ (rest : List ℕ). 32 ∷ (word ++ rest)) (spaced-append one other)
-    ∙ ap (λ (rest : List ℕ). 32 ∷ rest) (sym (append_assoc word (spaced one) (spaced other)))
+    ∙ ap (λ (rest : List ℕ). 32 ∷ rest) (sym (append_assoc word (spaced_words one) (spaced_words other)))
 
 pub lines-append : (one other : List (List (List ℕ))) → flat_map line_text (one ++ other) ≡ flat_map line_text one ++ flat_map line_text other
 lines-append [] other = refl

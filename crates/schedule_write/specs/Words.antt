@@ -14,18 +14,18 @@ use Rattle.topo_state.specs.declared.data.ResizeKind.TheVariants.{Keep, Merge, S
 -- ---- lines
 
 -- words behind another one, each after a space, byte 32
-abbrev pub spaced : List (List ℕ) → List ℕ
-spaced [] = []
-spaced (word ∷ words) = 32 ∷ (word ++ spaced words)
+abbrev pub spaced_words : List (List ℕ) → List ℕ
+spaced_words [] = []
+spaced_words (word ∷ words) = 32 ∷ (word ++ spaced_words words)
 
 -- words with one space between two of them
-abbrev pub joined : List (List ℕ) → List ℕ
-joined [] = []
-joined (word ∷ words) = word ++ spaced words
+abbrev pub joined_words : List (List ℕ) → List ℕ
+joined_words [] = []
+joined_words (word ∷ words) = word ++ spaced_words words
 
 -- a line: its words, and LF
 abbrev pub line_text : List (List ℕ) → List ℕ
-line_text words = joined words ++ codes "\n"
+line_text words = joined_words words ++ codes "\n"
 
 -- ---- words
 

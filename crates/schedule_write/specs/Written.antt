@@ -71,5 +71,5 @@ entry_line entry = event_words entry.event
 abbrev pub written_lines : Journal → List (List (List ℕ))
 written_lines journal = header_lines journal.opening ++ map entry_line journal.entries
 
-abbrev pub written : Journal → List ℕ
-written journal = flat_map line_text (written_lines journal)
+abbrev pub written_form : Journal → List ℕ
+written_form journal = flat_map line_text (written_lines journal)

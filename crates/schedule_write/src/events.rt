@@ -2,7 +2,7 @@
 ghost use Rattle.std.specs.Fmt.{decimal};
 ghost use Rattle.std.specs.Prelude.{◌≡◌, ◌++◌, ◌∷◌, [], OnOk};
 ghost use Rattle.cluster_history.specs.declared.data.Event.TheVariants.{Ask, Begin};
-ghost use Rattle.schedule_write.specs.Words.{spaced, joined, spelt_host, spelt_lane, reference_word};
+ghost use Rattle.schedule_write.specs.Words.{spaced_words, joined_words, spelt_host, spelt_lane, reference_word};
 ghost use Rattle.schedule_write.specs.Events.{operation_words, spelt_what, spelt_command, actor_words, event_words};
 ghost use Rattle.topo_state.specs.declared.command.Command.TheVariants.{CreateTable, Start};
 
@@ -18,7 +18,7 @@ use topo_state::Command;
 
 /// Adds what a client asks.
 fn operation(alloc: Global, text: &mut Vec<u8>, operation: &Operation) -> Result<(), NoMemory>
-    ensures { OnOk result (text.new.items ≡ text.old.items ++ spaced (operation_words operation.now)) }
+    ensures { OnOk result (text.new.items ≡ text.old.items ++ spaced_words (operation_words operation.now)) }
 {
     match operation {
         Operation::Write {
@@ -41,7 +41,7 @@ fn operation(alloc: Global, text: &mut Vec<u8>, operation: &Operation) -> Result
 
 /// Adds what a coordinator asks.
 fn what(text: &mut Vec<u8>, what: What) -> Result<(), NoMemory>
-    ensures { OnOk result (text.new.items ≡ text.old.items ++ spaced (spelt_what what)) }
+    ensures { OnOk result (text.new.items ≡ text.old.items ++ spaced_words (spelt_what what)) }
 {
     let (verb, asked) = match what {
         What::Drain(version) => ("drain", version.0),
@@ -57,7 +57,7 @@ fn what(text: &mut Vec<u8>, what: What) -> Result<(), NoMemory>
 /// Adds a command that creates a table.
 fn creation(text: &mut Vec<u8>, table: TableId, log2: u8, all: &[Replica]) -> Result<(), NoMemory>
     ensures { OnOk result
-        (text.new.items ≡ text.old.items ++ spaced (spelt_command (CreateTable table log2 all.now))) }
+        (text.new.items ≡ text.old.items ++ spaced_words (spelt_command (CreateTable table log2 all.now))) }
 {
     word(text, "create")?;
     number(text, u64::from(table.0))?;
@@ -74,7 +74,7 @@ fn start(
     pending: Replica,
 ) -> Result<(), NoMemory>
     ensures { OnOk result
-        (text.new.items ≡ text.old.items ++ spaced (spelt_command (Start table tablet leaving pending))) }
+        (text.new.items ≡ text.old.items ++ spaced_words (spelt_command (Start table tablet leaving pending))) }
 {
     word(text, "start")?;
     number(text, u64::from(table.0))?;
@@ -85,7 +85,7 @@ fn start(
 
 /// Adds a command.
 fn command(text: &mut Vec<u8>, command: &Command) -> Result<(), NoMemory>
-    ensures { OnOk result (text.new.items ≡ text.old.items ++ spaced (spelt_command command.now)) }
+    ensures { OnOk result (text.new.items ≡ text.old.items ++ spaced_words (spelt_command command.now)) }
 {
     match command {
         Command::CreateTable {
@@ -131,7 +131,7 @@ fn command(text: &mut Vec<u8>, command: &Command) -> Result<(), NoMemory>
 
 /// Adds an actor.
 fn actor(text: &mut Vec<u8>, actor: Actor) -> Result<(), NoMemory>
-    ensures { OnOk result (text.new.items ≡ text.old.items ++ spaced (actor_words actor)) }
+    ensures { OnOk result (text.new.items ≡ text.old.items ++ spaced_words (actor_words actor)) }
 {
     match actor {
         Actor::Host(by) => {
@@ -151,7 +151,7 @@ fn actor(text: &mut Vec<u8>, actor: Actor) -> Result<(), NoMemory>
 
 /// Begins a line with a verb and a host.
 fn of_host(text: &mut Vec<u8>, verb: &str, by: HostId) -> Result<(), NoMemory>
-    ensures { OnOk result (text.new.items ≡ text.old.items ++ joined (verb.now ∷ spelt_host by ∷ [])) }
+    ensures { OnOk result (text.new.items ≡ text.old.items ++ joined_words (verb.now ∷ spelt_host by ∷ [])) }
 {
     text.extend_from_slice(verb.as_bytes())?;
     host(text, by)
@@ -160,7 +160,7 @@ fn of_host(text: &mut Vec<u8>, verb: &str, by: HostId) -> Result<(), NoMemory>
 /// Begins a line with a verb, a host and a number.
 fn of_number(text: &mut Vec<u8>, verb: &str, by: HostId, asked: u64) -> Result<(), NoMemory>
     ensures { OnOk result
-        (text.new.items ≡ text.old.items ++ joined (verb.now ∷ spelt_host by ∷ decimal asked ∷ [])) }
+        (text.new.items ≡ text.old.items ++ joined_words (verb.now ∷ spelt_host by ∷ decimal asked ∷ [])) }
 {
     of_host(text, verb, by)?;
     number(text, asked)
@@ -169,7 +169,7 @@ fn of_number(text: &mut Vec<u8>, verb: &str, by: HostId, asked: u64) -> Result<(
 /// Begins a line with a verb, a host and a message.
 fn of_message(text: &mut Vec<u8>, verb: &str, by: HostId, at: MsgRef) -> Result<(), NoMemory>
     ensures { OnOk result
-        (text.new.items ≡ text.old.items ++ joined (verb.now ∷ spelt_host by ∷ reference_word at ∷ [])) }
+        (text.new.items ≡ text.old.items ++ joined_words (verb.now ∷ spelt_host by ∷ reference_word at ∷ [])) }
 {
     of_host(text, verb, by)?;
     reference(text, at)
@@ -177,7 +177,7 @@ fn of_message(text: &mut Vec<u8>, verb: &str, by: HostId, at: MsgRef) -> Result<
 
 /// Begins a line with a verb and a lane.
 fn of_lane(text: &mut Vec<u8>, verb: &str, by: LaneId) -> Result<(), NoMemory>
-    ensures { OnOk result (text.new.items ≡ text.old.items ++ joined (verb.now ∷ spelt_lane by ∷ [])) }
+    ensures { OnOk result (text.new.items ≡ text.old.items ++ joined_words (verb.now ∷ spelt_lane by ∷ [])) }
 {
     text.extend_from_slice(verb.as_bytes())?;
     lane(text, by)
@@ -191,7 +191,7 @@ fn begin(
     asked: &Operation,
     version: Version,
 ) -> Result<(), NoMemory>
-    ensures { OnOk result (text.new.items ≡ text.old.items ++ joined (event_words (Begin by asked.now version))) }
+    ensures { OnOk result (text.new.items ≡ text.old.items ++ joined_words (event_words (Begin by asked.now version))) }
 {
     of_lane(text, "begin", by)?;
     operation(alloc, text, asked)?;
@@ -201,7 +201,7 @@ fn begin(
 
 /// Adds the words of a coordinator's question.
 fn ask(text: &mut Vec<u8>, by: HostId, asked: HostId, question: What) -> Result<(), NoMemory>
-    ensures { OnOk result (text.new.items ≡ text.old.items ++ joined (event_words (Ask by asked question))) }
+    ensures { OnOk result (text.new.items ≡ text.old.items ++ joined_words (event_words (Ask by asked question))) }
 {
     of_host(text, "ask", by)?;
     host(text, asked)?;
@@ -210,7 +210,7 @@ fn ask(text: &mut Vec<u8>, by: HostId, asked: HostId, question: What) -> Result<
 
 /// Adds the words of an event.
 pub(crate) fn event(alloc: Global, text: &mut Vec<u8>, event: &Event) -> Result<(), NoMemory>
-    ensures { OnOk result (text.new.items ≡ text.old.items ++ joined (event_words event.now)) }
+    ensures { OnOk result (text.new.items ≡ text.old.items ++ joined_words (event_words event.now)) }
 {
     match event {
         Event::Begin {

@@ -2,7 +2,7 @@
 ghost use Rattle.std.specs.Fmt.{decimal};
 ghost use Rattle.std.specs.List.{flat_map};
 ghost use Rattle.std.specs.Prelude.{◌≡◌, ◌++◌, ◌∷◌, [], OnOk, map};
-ghost use Rattle.schedule_write.specs.Words.{spaced, line_text, spelt_host};
+ghost use Rattle.schedule_write.specs.Words.{spaced_words, line_text, spelt_host};
 ghost use Rattle.schedule_write.specs.Written.{same_replicas, spelt_tablet, tablet_lines, table_lines, count_lines, spelt_members, header_lines};
 
 use crate::words::{host, number, replicas};
@@ -83,7 +83,7 @@ fn count_line(text: &mut Vec<u8>, verb: &str, count: u64) -> Result<(), NoMemory
 
 /// Adds hosts in order.
 fn hosts(text: &mut Vec<u8>, hosts: &[HostId]) -> Result<(), NoMemory>
-    ensures { OnOk result (text.new.items ≡ text.old.items ++ spaced (map spelt_host hosts.now)) }
+    ensures { OnOk result (text.new.items ≡ text.old.items ++ spaced_words (map spelt_host hosts.now)) }
 {
     for one in hosts {
         host(text, *one)?;

@@ -2,7 +2,7 @@
 ghost use Rattle.std.specs.Fmt.{decimal, signed_decimal};
 ghost use Rattle.std.specs.Prelude.{◌≡◌, ◌++◌, ◌∷◌, [], OnOk};
 ghost use Rattle.report_text.specs.Report.{cell_text};
-ghost use Rattle.schedule_write.specs.Words.{spaced, spelt_host, spelt_lane, replica_word, replica_words, reference_word, spelt_target, spelt_resize};
+ghost use Rattle.schedule_write.specs.Words.{spaced_words, spelt_host, spelt_lane, replica_word, replica_words, reference_word, spelt_target, spelt_resize};
 
 use base_ids::{HostId, LaneId, MsgRef, NoMemory, Replica};
 use cell_merge::Cell;
@@ -13,7 +13,7 @@ use topo_state::ResizeKind;
 
 /// Adds a word.
 pub(crate) fn word(text: &mut Vec<u8>, word: &str) -> Result<(), NoMemory>
-    ensures { OnOk result (text.new.items ≡ text.old.items ++ spaced (word.now ∷ [])) }
+    ensures { OnOk result (text.new.items ≡ text.old.items ++ spaced_words (word.now ∷ [])) }
 {
     text.push(b' ')?;
     text.extend_from_slice(word.as_bytes())?;
@@ -22,7 +22,7 @@ pub(crate) fn word(text: &mut Vec<u8>, word: &str) -> Result<(), NoMemory>
 
 /// Adds a number.
 pub(crate) fn number(text: &mut Vec<u8>, number: u64) -> Result<(), NoMemory>
-    ensures { OnOk result (text.new.items ≡ text.old.items ++ spaced (decimal number ∷ [])) }
+    ensures { OnOk result (text.new.items ≡ text.old.items ++ spaced_words (decimal number ∷ [])) }
 {
     let mut buffer = itoa::Buffer::new();
     word(text, buffer.format(number))
@@ -30,7 +30,7 @@ pub(crate) fn number(text: &mut Vec<u8>, number: u64) -> Result<(), NoMemory>
 
 /// Adds a number with a sign.
 pub(crate) fn signed(text: &mut Vec<u8>, number: i64) -> Result<(), NoMemory>
-    ensures { OnOk result (text.new.items ≡ text.old.items ++ spaced (signed_decimal number ∷ [])) }
+    ensures { OnOk result (text.new.items ≡ text.old.items ++ spaced_words (signed_decimal number ∷ [])) }
 {
     let mut buffer = itoa::Buffer::new();
     word(text, buffer.format(number))
@@ -39,7 +39,7 @@ pub(crate) fn signed(text: &mut Vec<u8>, number: i64) -> Result<(), NoMemory>
 /// Adds two numbers with a byte between them, as one word.
 fn pair(text: &mut Vec<u8>, first: u64, separator: u8, second: u64) -> Result<(), NoMemory>
     ensures { OnOk result
-        (text.new.items ≡ text.old.items ++ spaced ((decimal first ++ separator ∷ decimal second) ∷ [])) }
+        (text.new.items ≡ text.old.items ++ spaced_words ((decimal first ++ separator ∷ decimal second) ∷ [])) }
 {
     let mut buffer = itoa::Buffer::new();
     number(text, first)?;
@@ -50,21 +50,21 @@ fn pair(text: &mut Vec<u8>, first: u64, separator: u8, second: u64) -> Result<()
 
 /// Adds a host.
 pub(crate) fn host(text: &mut Vec<u8>, host: HostId) -> Result<(), NoMemory>
-    ensures { OnOk result (text.new.items ≡ text.old.items ++ spaced (spelt_host host ∷ [])) }
+    ensures { OnOk result (text.new.items ≡ text.old.items ++ spaced_words (spelt_host host ∷ [])) }
 {
     number(text, u64::from(host.0))
 }
 
 /// Adds a lane.
 pub(crate) fn lane(text: &mut Vec<u8>, lane: LaneId) -> Result<(), NoMemory>
-    ensures { OnOk result (text.new.items ≡ text.old.items ++ spaced (spelt_lane lane ∷ [])) }
+    ensures { OnOk result (text.new.items ≡ text.old.items ++ spaced_words (spelt_lane lane ∷ [])) }
 {
     pair(text, u64::from(lane.host.0), b'.', u64::from(lane.lane))
 }
 
 /// Adds a replica.
 pub(crate) fn replica(text: &mut Vec<u8>, replica: Replica) -> Result<(), NoMemory>
-    ensures { OnOk result (text.new.items ≡ text.old.items ++ spaced (replica_word replica ∷ [])) }
+    ensures { OnOk result (text.new.items ≡ text.old.items ++ spaced_words (replica_word replica ∷ [])) }
 {
     let shard = u64::from(replica.shard.0);
     pair(text, u64::from(replica.host.0), b':', shard)
@@ -72,7 +72,7 @@ pub(crate) fn replica(text: &mut Vec<u8>, replica: Replica) -> Result<(), NoMemo
 
 /// Adds replicas in order.
 pub(crate) fn replicas(text: &mut Vec<u8>, replicas: &[Replica]) -> Result<(), NoMemory>
-    ensures { OnOk result (text.new.items ≡ text.old.items ++ spaced (replica_words replicas.now)) }
+    ensures { OnOk result (text.new.items ≡ text.old.items ++ spaced_words (replica_words replicas.now)) }
 {
     for one in replicas {
         replica(text, *one)?;
@@ -82,14 +82,14 @@ pub(crate) fn replicas(text: &mut Vec<u8>, replicas: &[Replica]) -> Result<(), N
 
 /// Adds a reference to a message.
 pub(crate) fn reference(text: &mut Vec<u8>, at: MsgRef) -> Result<(), NoMemory>
-    ensures { OnOk result (text.new.items ≡ text.old.items ++ spaced (reference_word at ∷ [])) }
+    ensures { OnOk result (text.new.items ≡ text.old.items ++ spaced_words (reference_word at ∷ [])) }
 {
     pair(text, at.event, b'.', u64::from(at.out))
 }
 
 /// Adds a cell.
 pub(crate) fn cell(alloc: Global, text: &mut Vec<u8>, cell: &Cell) -> Result<(), NoMemory>
-    ensures { OnOk result (text.new.items ≡ text.old.items ++ spaced (cell_text cell.now ∷ [])) }
+    ensures { OnOk result (text.new.items ≡ text.old.items ++ spaced_words (cell_text cell.now ∷ [])) }
 {
     let spelt = cell_text(alloc, cell)?;
     word(text, spelt.as_str())

@@ -5,7 +5,7 @@ use Rattle.text_grammar.specs.Rules.{bad_word}
 use Rattle.text_grammar.specs.Shapes.{Either, Spells, Fails}
 use Rattle.text_grammar.specs.Lines.{Line, Language, is_comment, are_ascii, Makes, Breaks, Leads, IsText, IsFault}
 use Rattle.text_grammar.specs.Readings.{◌>>=◌, reading}
-use Rattle.text_grammar.specs.Folds.{LineFault, passed, told_or, at_line, and_then, line_reading, lines_reading, text_reading}
+use Rattle.text_grammar.specs.Folds.{LineFault, is_passed_over, told_or, at_line, and_then, line_reading, lines_reading, text_reading}
 use Rattle.text_grammar.proofs.ShapeLaws.{ToldLine, line_told, line_reads, line_faults}
 
 abbrev pub Said : {S X Y : Type 0} → Language S X Y → ℕ → S → Line → Result S Fault → Type 0
@@ -47,7 +47,7 @@ breaks_read {S} {X} l number before (word ∷ words) r at =
     (λ p. ap (λ x. x >>= λ y. Ok (l.after number before y)) (line_faults (l.shape before) (word ∷ words) r p)) at
 
 -- a line that is not passed over makes what it tells
-pub passed_or_told : {S X Y : Type 0} (l : Language S X Y) (number : ℕ) (before : S) (line : Line) → line_reading l number before line ≡ (passed line >>= told_or l number before line)
+pub passed_or_told : {S X Y : Type 0} (l : Language S X Y) (number : ℕ) (before : S) (line : Line) → line_reading l number before line ≡ (is_passed_over line >>= told_or l number before line)
 passed_or_told l number before [] = refl
 passed_or_told {S} l number before (word ∷ words) =
     elim (is_comment word) as (λ (t : Bool). cond t (cond (are_ascii (word ∷ words)) (Ok before) (Err bad_word)) (reading (l.shape before) (word ∷ words) >>= λ x. Ok (l.after number before x)) ≡ (cond t (cond (are_ascii (word ∷ words)) (Ok true) (Err bad_word)) (Ok false) >>= told_or l number before (word ∷ words))) [

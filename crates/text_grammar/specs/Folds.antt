@@ -19,9 +19,9 @@ and_then (Ok a) f = f a
 and_then (Err fault) f = Err fault
 
 -- whether a line is passed over: one without words, and a comment; a comment may be at fault
-abbrev pub passed : Line → Result Bool Fault
-passed [] = Ok true
-passed (word ∷ words) =
+abbrev pub is_passed_over : Line → Result Bool Fault
+is_passed_over [] = Ok true
+is_passed_over (word ∷ words) =
     if is_comment word then (if are_ascii (word ∷ words) then Ok true else Err bad_word) else Ok false
 
 -- what a line makes, by whether it is passed over

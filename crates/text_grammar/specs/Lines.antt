@@ -13,6 +13,7 @@ Line = List (List ℕ)
 abbrev pub is_comment : List ℕ → Bool
 is_comment word = begins_with (λ b. b == 35) word
 
+-- each byte of the line is below 128
 abbrev pub are_ascii : Line → Bool
 are_ascii words = list_all (λ word. list_all (λ b. nat_lt b 128) word) words
 
@@ -72,6 +73,7 @@ pub record EndsEarly {S X Y : Type 0}
   pub count : number ≡ length lines + 1
   pub breaks : language.finish last ≡ Err fault
 
+-- the line of this number is the first at fault, or the text ends too early there
 abbrev pub IsFault : {S X Y : Type 0} → Language S X Y → S → List Line → ℕ → Fault → Type 0
 IsFault language first lines number fault =
     IsFirstFault language first lines number fault ⊎ EndsEarly language first lines number fault

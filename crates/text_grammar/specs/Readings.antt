@@ -13,9 +13,9 @@ abbrev pub ◌>>=◌ : {A B : Type 0} → Result A Fault → (A → Result B Fau
 (Err fault) >>= f = Err fault
 
 -- what is there; else this rule
-abbrev pub given : {A : Type 0} → TextRule → Option A → Result A Fault
-given rule (Some a) = Ok a
-given rule None = Err (Refused rule)
+abbrev pub or_rule : {A : Type 0} → TextRule → Option A → Result A Fault
+or_rule rule (Some a) = Ok a
+or_rule rule None = Err (Refused rule)
 
 -- a digit, 0 to 9
 abbrev pub digit_of : ℕ → Option ℕ
@@ -71,12 +71,12 @@ parts_of separator word = with_front (cut_at separator word)
 
 -- what the word tells at a place
 abbrev pub read : {A : Type 0} → Place A → List ℕ → Result A Fault
-read (Digits rule) word = given rule (unsigned_of word)
-read (Hex rule) word = given rule (hex_bytes_of word)
+read (Digits rule) word = or_rule rule (unsigned_of word)
+read (Hex rule) word = or_rule rule (hex_bytes_of word)
 read (Known table) word = table word
 read (Judged place judge) word = read place word >>= judge
 read (Cut separator rule first last) word =
-    given rule (parts_of separator word) >>= λ cut. read first cut.0 >>= λ a. read (last a) cut.1
+    or_rule rule (parts_of separator word) >>= λ cut. read first cut.0 >>= λ a. read (last a) cut.1
 read (ByFirst test one other) word = if begins_with test word then read one word else read other word
 read (Behind byte one other) word = if begins_with (λ b. b == byte) word then read one (tail word) else read other word
 

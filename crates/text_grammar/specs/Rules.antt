@@ -18,6 +18,6 @@ text_rule_word BadActor = codes "BadActor"
 text_rule_word LabelTwice = codes "LabelTwice"
 text_rule_word NoLabel = codes "NoLabel"
 
--- a word, or a missing one, is of none of the forms that may stand there
+-- the fault of a word that no form has at its place, and of one that is missing
 abbrev pub bad_word : Fault
 bad_word = Refused BadWord

@@ -93,7 +93,7 @@ pub record IsLastLine (bytes line : List ℕ) : Type 0 where
   pub free : IsFree 10 line
   pub some : 1 ≤ length line
 
--- the text has these lines: each ends with LF or with the end of the text, and a last one without bytes is none
+-- the text has these lines, each with its LF; the last may go without, but then it has bytes
 abbrev pub AreLines : List ℕ → List (List ℕ) → Type 0
 AreLines bytes [] = bytes ≡ []
 AreLines bytes (line ∷ lines) =

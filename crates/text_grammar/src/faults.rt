@@ -9,7 +9,7 @@ use thiserror::Error;
 /// What a line of a schedule text, or its end, is refused for.
 #[derive(Clone, Copy, Debug, PartialEq, Eq, Error)]
 pub enum TextRule {
-    /// The first line that is not passed over is not `tablets 1`, or there is none.
+    /// What comes first, comments and lines without words aside, is another line than `tablets 1`, or nothing.
     #[error("NoHeader")]
     NoHeader,
     /// The text ends before `go`.
@@ -18,16 +18,16 @@ pub enum TextRule {
     /// A line of the header is repeated or out of its order, or names what it may not.
     #[error("BadHeader")]
     BadHeader,
-    /// A line or a word is of none of the forms that may stand there.
+    /// No form allows this line or word here.
     #[error("BadWord")]
     BadWord,
-    /// A number is not spelled so, or does not fit its type.
+    /// This is not how a number is written, or the number is out of its range.
     #[error("BadNumber")]
     BadNumber,
     /// A token is the least signed number of 64 bits.
     #[error("BadToken")]
     BadToken,
-    /// A cell is not spelled so.
+    /// This is not how a cell is written.
     #[error("BadCell")]
     BadCell,
     /// A table of the header names a replica that it may not have.
@@ -36,10 +36,10 @@ pub enum TextRule {
     /// A host or lane that acts, or is asked, is not in the opening.
     #[error("BadActor")]
     BadActor,
-    /// The label was used before.
+    /// An earlier line has this label already.
     #[error("LabelTwice")]
     LabelTwice,
-    /// No earlier line has the label.
+    /// None of the lines before has the label.
     #[error("NoLabel")]
     NoLabel,
 }

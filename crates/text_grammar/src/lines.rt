@@ -3,7 +3,7 @@ ghost use Rattle.std.specs.Prelude.{◌≡◌, ◌<◌, ◌∷◌, length, nat_l
 ghost use Rattle.std.specs.List.{list_all};
 ghost use Rattle.text_grammar.specs.Cuts.{lines_of, without_return, words_of};
 ghost use Rattle.text_grammar.specs.Lines.{is_comment};
-ghost use Rattle.text_grammar.specs.Folds.{passed};
+ghost use Rattle.text_grammar.specs.Folds.{is_passed_over};
 
 use crate::faults::{Fault, TextRule};
 use crate::words::{cut_at, next_word};
@@ -50,7 +50,7 @@ fn are_ascii(line: &[u8]) -> bool
 /// with `BadWord`.
 #[tactic(auto, using(crate::proofs::CutLemmas::ascii_line))]
 pub fn passed(line: &[u8]) -> Result<bool, Fault>
-    ensures { result ≡ passed (words_of line.now) }
+    ensures { result ≡ is_passed_over (words_of line.now) }
 {
     match next_word(line) {
         Err(_) => Ok(true),

@@ -1,6 +1,6 @@
 // Numbers of decimal digits, and bytes of hexadecimal ones.
 ghost use Rattle.std.specs.Prelude.{◌≡◌, ◌<◌, ◌^◌, IfSome};
-ghost use Rattle.text_grammar.specs.Readings.{digit_of, unsigned_of, given, hex_digit_of};
+ghost use Rattle.text_grammar.specs.Readings.{digit_of, unsigned_of, or_rule, hex_digit_of};
 
 use crate::faults::{Fault, TextRule};
 
@@ -32,7 +32,7 @@ pub fn unsigned_of(word: &[u8]) -> Option<u128>
 
 /// The number that a word of 1 to 20 digits spells. Any other word is at fault with the rule.
 pub fn digits(rule: TextRule, word: &[u8]) -> Result<u128, Fault>
-    ensures { result ≡ given rule (unsigned_of word.now) }
+    ensures { result ≡ or_rule rule (unsigned_of word.now) }
 {
     match unsigned_of(word) {
         None => Err(Fault::Refused(rule)),

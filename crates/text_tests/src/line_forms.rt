@@ -107,90 +107,85 @@ fn lines_say_what_their_words_say(rt: HostRuntime) -> Result<(), Fail> {
     Ok(())
 }
 
+/// Lines that are at fault, and the rule of each. Each rule that a line behind the header can break is there, which are
+/// all but `NoHeader`, `NoGo` and `BadReplicas`.
+const FAULTS: [(&[u8], TextRule); 38] = [
+    (b"hosts 3", TextRule::BadHeader),
+    (b"go", TextRule::BadHeader),
+    (b"jump 0", TextRule::BadWord),
+    (b"apply", TextRule::BadWord),
+    (b"apply 0 0", TextRule::BadWord),
+    (b"apply 3", TextRule::BadActor),
+    (b"apply 65536", TextRule::BadNumber),
+    (b"apply \xff", TextRule::BadNumber),
+    (b"begin 0 read 1 1", TextRule::BadWord),
+    (b"begin .0 read 1 1", TextRule::BadWord),
+    (b"begin 0.0.0 read 1 1", TextRule::BadNumber),
+    (b"begin 9.x read 1 1", TextRule::BadNumber),
+    (b"begin 0.2 read x 1", TextRule::BadActor),
+    (b"begin 0.0 grow 1 1", TextRule::BadWord),
+    (
+        b"begin 0.0 read 1 -9223372036854775808 x",
+        TextRule::BadToken,
+    ),
+    (
+        b"begin 0.0 read 1 -9223372036854775809",
+        TextRule::BadNumber,
+    ),
+    (b"begin 0.0 read 1 1 to 1", TextRule::BadWord),
+    (b"begin 0.0 write 1 1 live:x:61", TextRule::BadCell),
+    (
+        b"begin 0.0 write 1 1 live:9223372036854775808:616",
+        TextRule::BadCell,
+    ),
+    (
+        b"begin 0.0 write 1 1 live:9223372036854775808:61",
+        TextRule::BadNumber,
+    ),
+    (
+        b"begin 0.0 write 1 1 dead:1:4294967296",
+        TextRule::BadNumber,
+    ),
+    (b"begin 0.0 write 1 1 dead:1:2:3", TextRule::BadCell),
+    (b"timeout 0.0 18446744073709551616", TextRule::BadNumber),
+    (b"serve 0 z.x", TextRule::NoLabel),
+    (b"serve 0 w.x", TextRule::BadNumber),
+    (b"serve 0 W.0", TextRule::BadNumber),
+    (b"serve 0 w", TextRule::BadWord),
+    (b"ask 0 3 drain x", TextRule::BadActor),
+    (b"ask 0 1 sleep 1", TextRule::BadWord),
+    (b"restart shard 0", TextRule::BadWord),
+    (b"propose 0 create 1 0", TextRule::BadWord),
+    (b"propose 0 advance 1 sleeping", TextRule::BadWord),
+    (b"w: jump", TextRule::LabelTwice),
+    (b"v: jump", TextRule::BadWord),
+    (b"v: sync", TextRule::BadWord),
+    (b"v: serve 0 v.0", TextRule::NoLabel),
+    (b"abcdefghijklm0123: apply 0", TextRule::BadWord),
+    (b"sync 0", TextRule::BadWord),
+];
+
+/// Lines that pass a limit, and its name. Each limit that a line behind the header can pass is there.
+const LIMITS: [(&[u8], LimitName); 3] = [
+    (b"propose 0 create 1 11 x", LimitName::Log2),
+    (
+        b"propose 0 create 1 0 0:0 0:0 0:0 0:0 0:0 0:0 0:0 0:0 9:9 x",
+        LimitName::Replicas,
+    ),
+    (
+        b"begin 0.0 write 1 1 live:1:\
+        000102030405060708090a0b0c0d0e0f101112131415161718191a1b1c1d1e1f\
+        202122232425262728292a2b2c2d2e2f303132333435363738393a3b3c3d3e3f40",
+        LimitName::Value,
+    ),
+];
+
 #[test]
 fn faults_are_named(rt: HostRuntime) -> Result<(), Fail> {
-    let rules = [
-        (b"hosts 3".as_slice(), TextRule::BadHeader),
-        (b"go".as_slice(), TextRule::BadHeader),
-        (b"jump 0".as_slice(), TextRule::BadWord),
-        (b"apply".as_slice(), TextRule::BadWord),
-        (b"apply 0 0".as_slice(), TextRule::BadWord),
-        (b"apply 3".as_slice(), TextRule::BadActor),
-        (b"apply 65536".as_slice(), TextRule::BadNumber),
-        (b"apply \xff".as_slice(), TextRule::BadNumber),
-        (b"begin 0 read 1 1".as_slice(), TextRule::BadWord),
-        (b"begin .0 read 1 1".as_slice(), TextRule::BadWord),
-        (b"begin 0.0.0 read 1 1".as_slice(), TextRule::BadNumber),
-        (b"begin 9.x read 1 1".as_slice(), TextRule::BadNumber),
-        (b"begin 0.2 read x 1".as_slice(), TextRule::BadActor),
-        (b"begin 0.0 grow 1 1".as_slice(), TextRule::BadWord),
-        (
-            b"begin 0.0 read 1 -9223372036854775808 x".as_slice(),
-            TextRule::BadToken,
-        ),
-        (
-            b"begin 0.0 read 1 -9223372036854775809".as_slice(),
-            TextRule::BadNumber,
-        ),
-        (b"begin 0.0 read 1 1 to 1".as_slice(), TextRule::BadWord),
-        (
-            b"begin 0.0 write 1 1 live:x:61".as_slice(),
-            TextRule::BadCell,
-        ),
-        (
-            b"begin 0.0 write 1 1 live:9223372036854775808:616".as_slice(),
-            TextRule::BadCell,
-        ),
-        (
-            b"begin 0.0 write 1 1 live:9223372036854775808:61".as_slice(),
-            TextRule::BadNumber,
-        ),
-        (
-            b"begin 0.0 write 1 1 dead:1:4294967296".as_slice(),
-            TextRule::BadNumber,
-        ),
-        (
-            b"begin 0.0 write 1 1 dead:1:2:3".as_slice(),
-            TextRule::BadCell,
-        ),
-        (
-            b"timeout 0.0 18446744073709551616".as_slice(),
-            TextRule::BadNumber,
-        ),
-        (b"serve 0 z.x".as_slice(), TextRule::NoLabel),
-        (b"serve 0 w.x".as_slice(), TextRule::BadNumber),
-        (b"serve 0 W.0".as_slice(), TextRule::BadNumber),
-        (b"serve 0 w".as_slice(), TextRule::BadWord),
-        (b"ask 0 3 drain x".as_slice(), TextRule::BadActor),
-        (b"ask 0 1 sleep 1".as_slice(), TextRule::BadWord),
-        (b"restart shard 0".as_slice(), TextRule::BadWord),
-        (b"propose 0 create 1 0".as_slice(), TextRule::BadWord),
-        (
-            b"propose 0 advance 1 sleeping".as_slice(),
-            TextRule::BadWord,
-        ),
-        (b"w: jump".as_slice(), TextRule::LabelTwice),
-        (b"v: jump".as_slice(), TextRule::BadWord),
-        (b"v: sync".as_slice(), TextRule::BadWord),
-        (b"v: serve 0 v.0".as_slice(), TextRule::NoLabel),
-        (b"abcdefghijklm0123: apply 0".as_slice(), TextRule::BadWord),
-        (b"sync 0".as_slice(), TextRule::BadWord),
-    ];
-    for (line, rule) in rules {
+    for (line, rule) in FAULTS {
         assert!(rt; said(rt.alloc(), line)?.err() == Some(Fault::Refused(rule)));
     }
-    let limits = [
-        (b"propose 0 create 1 11 x".as_slice(), LimitName::Log2),
-        (
-            b"propose 0 create 1 0 0:0 0:0 0:0 0:0 0:0 0:0 0:0 0:0 9:9 x".as_slice(),
-            LimitName::Replicas,
-        ),
-        (
-            b"begin 0.0 write 1 1 live:1:000102030405060708090a0b0c0d0e0f101112131415161718191a1b1c1d1e1f202122232425262728292a2b2c2d2e2f303132333435363738393a3b3c3d3e3f40".as_slice(),
-            LimitName::Value,
-        ),
-    ];
-    for (line, name) in limits {
+    for (line, name) in LIMITS {
         assert!(rt; said(rt.alloc(), line)?.err() == Some(Fault::Limit(name)));
     }
     Ok(())

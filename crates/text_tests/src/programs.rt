@@ -181,6 +181,120 @@ fn one_byte_past_the_limit_is_refused(rt: HostRuntime) -> Result<(), Fail> {
     Ok(())
 }
 
+/// The line so many times behind the head.
+fn repeated(alloc: Global, head: &[u8], line: &[u8], count: u32) -> Result<Vec<u8>, Fail> {
+    let mut text = Vec::from_slice(alloc, head)?;
+    for _ in 0..count {
+        text.extend_from_slice(line)?;
+    }
+    Ok(text)
+}
+
+/// Plays a text that passes a limit, and compares what was written.
+fn check_limit(
+    rt: &impl Abort,
+    alloc: Global,
+    text: Vec<u8>,
+    written: &[u8],
+) -> Result<(), NoMemory> {
+    let mut source = MemorySource::new(text, 65536, Vec::new(alloc));
+    let mut sink = MemorySink::new(alloc, 4096, 4194304, Vec::new(alloc))?;
+    let outcome = play_main(alloc, &mut source, &mut sink);
+    assert_eq!(rt; outcome.status, 7);
+    assert!(rt; sink.content() == written);
+    Ok(())
+}
+
+/// The report of so many accepted commands, and the line of the limit.
+fn full_log(alloc: Global, commands: u16) -> Result<Vec<u8>, Fail> {
+    let mut report = Vec::new(alloc);
+    for command in 1..=commands {
+        let version = u32::from(command) + 1;
+        let line = format!(in alloc; "topo 0 accepted {command} v{version}\n")?;
+        report.extend_from_slice(line.as_bytes())?;
+    }
+    report.extend_from_slice(b"limit log\n".as_slice())?;
+    Ok(report)
+}
+
+#[test]
+fn one_command_past_the_limit_ends_the_play(rt: HostRuntime) -> Result<(), Fail> {
+    let alloc = rt.alloc();
+    let head = b"tablets 1\nhosts 1\nlanes 1\ntable 1 0 0:0\ngo\n";
+    let text = repeated(alloc, head, b"step 0 resize 1 keep\n", 10_001)?;
+    let report = full_log(alloc, 10_000)?;
+    check_limit(&rt, alloc, text, report.as_slice()).map_err(Fail::from)
+}
+
+/// The report of so many reads that find nothing, and the line of the limit.
+fn full_journal(alloc: Global, reads: u32) -> Result<Vec<u8>, Fail> {
+    let mut report = Vec::new(alloc);
+    for read in 1..=reads {
+        let line = format!(in alloc; "reply 0.0 {read} v1 read ok none\n")?;
+        report.extend_from_slice(line.as_bytes())?;
+    }
+    report.extend_from_slice(b"limit events\n".as_slice())?;
+    Ok(report)
+}
+
+#[test]
+fn one_event_past_the_limit_ends_the_play(rt: HostRuntime) -> Result<(), Fail> {
+    let alloc = rt.alloc();
+    // Of eight replicas a read needs five: a begin, five serves and five takes.
+    let head = b"tablets 1\nhosts 8\nlanes 1\ntable 1 0 0:0 1:0 2:0 3:0 4:0 5:0 6:0 7:0\ngo\n";
+    let text = repeated(alloc, head, b"do 0.0 read 1 5\n", 90_910)?;
+    let report = full_journal(alloc, 90_909)?;
+    check_limit(&rt, alloc, text, report.as_slice()).map_err(Fail::from)
+}
+
+/// A schedule with most forms of words.
+const MIXED: &[u8] =
+    b"# mixed\ntablets 1\r\nhosts 11\nlanes 2\nshards 2\nmembers 0 1 10\ntable 1 1 0:0 1:1 10:0\n\
+tablet 1 1 1:0\ngo\nw: begin 0.1 write 1 -5 live:-10:6aF0 at 1\na: serve 1 w.1\ntake 0.1 a.0\nserve 10 w.2\n\
+take 0.1 4.0\ndo 1.0 read 1 -5\ndrain 0\npropose 0 start 1 1 1:0 10:1\napply 1\napply 10\nsync\n\
+step 0 advance 1 cleanup_target\ntidy 0 1\n";
+
+/// Plays a text and returns the status; what was written ends with a line.
+fn status_of(rt: &impl Abort, alloc: Global, text: &[u8]) -> Result<u8, NoMemory> {
+    let bytes = Vec::from_slice(alloc, text)?;
+    let mut source = MemorySource::new(bytes, 64, Vec::new(alloc));
+    let mut sink = MemorySink::new(alloc, 64, 4096, Vec::new(alloc))?;
+    let outcome = play_main(alloc, &mut source, &mut sink);
+    assert!(rt; sink.content().ends_with(b"\n"));
+    Ok(outcome.status)
+}
+
+#[test]
+fn a_text_cut_anywhere_has_its_ending(rt: HostRuntime) -> Result<(), Fail> {
+    let alloc = rt.alloc();
+    for length in 0..MIXED.len() {
+        let status = status_of(&rt, alloc, &MIXED[..length])?;
+        assert!(rt; status == 0 || status == 3 || status == 4);
+    }
+    let status = status_of(&rt, alloc, MIXED)?;
+    assert_eq!(rt; status, 0);
+    Ok(())
+}
+
+#[test]
+fn a_long_line_is_no_header(rt: HostRuntime) -> Result<(), Fail> {
+    let alloc = rt.alloc();
+    for byte in [b'a', b'7'] {
+        let text = vec![in alloc; byte; 100_000]?;
+        let source = &mut source(alloc, text.as_slice(), 0)?;
+        check(
+            &rt,
+            alloc,
+            b"play",
+            source,
+            0,
+            3,
+            b"refused line 1 NoHeader\n",
+        )?;
+    }
+    Ok(())
+}
+
 /// Whether a line of a report tells that all went well.
 fn is_good(line: &str) -> bool {
     line.contains(" ok")

@@ -39,131 +39,108 @@ fn passes(alloc: Global, text: &[u8], name: LimitName) -> bool {
 fn texts_are_read(rt: HostRuntime) -> Result<(), Fail> {
     let alloc = rt.alloc();
     let short = b"tablets 1\nhosts 2\nlanes 1\ngo";
-    let long =
-        b"# first\n\n tablets  1 \r\nhosts 3\nlanes 2\nshards 2\nmembers 2 0\ntable 7 2 0:1 2:0\ntablet 7 3 2:1\ntable 1 0 0:0\ngo\r\n#\nw: begin 0.0 write 7 -5 live:1:aA\nserve 0 w.1\nserve 0 2.0\ndo 2.1 read 1 5\nw2: take 0.0 w.0\nsync\n";
+    let long = b"# first\n\n tablets  1 \r\nhosts 3\nlanes 2\nshards 2\nmembers 2 0\n\
+        table 7 2 0:1 2:0\ntablet 7 3 2:1\ntable 1 0 0:0\ngo\r\n#\nw: begin 0.0 write 7 -5 live:1:aA\nserve 0 w.1\n\
+        serve 0 2.0\ndo 2.1 read 1 5\nw2: take 0.0 w.0\nsync\n";
     assert!(rt; counts(alloc, short.as_slice()) == Some((2, 1, 2, 0, 0)));
     assert!(rt; counts(alloc, long.as_slice()) == Some((3, 2, 2, 2, 6)));
     Ok(())
 }
 
+/// Texts that are at fault, the first line at fault of each, and its rule. Each rule is there.
+const FAULTS: [(&[u8], u64, TextRule); 24] = [
+    (b"", 1, TextRule::NoHeader),
+    (b"\n# c\n", 3, TextRule::NoHeader),
+    (b"\ntablets 01\n", 2, TextRule::NoHeader),
+    (b"tablets 1\r", 1, TextRule::NoHeader),
+    (b"# \xff\ntablets 1\n", 1, TextRule::BadWord),
+    (b"tablets 1\nhosts 2\n", 3, TextRule::NoGo),
+    (b"tablets 1\ntablets 1\n", 2, TextRule::BadHeader),
+    (b"tablets 1\nlanes 1\n", 2, TextRule::BadHeader),
+    (b"tablets 1\nhosts 0 x\n", 2, TextRule::BadHeader),
+    (b"tablets 1\nhosts 70000\n", 2, TextRule::BadNumber),
+    (b"tablets 1\nhosts 2\r x\n", 2, TextRule::BadNumber),
+    (b"tablets 1\nhosts 2\nlanes\n", 3, TextRule::BadWord),
+    (
+        b"tablets 1\nhosts 2\nshards 1\nlanes 1\n",
+        4,
+        TextRule::BadHeader,
+    ),
+    (b"tablets 1\nhosts 2\ngo\n", 3, TextRule::BadHeader),
+    (b"tablets 1\nhosts 2\nmembers 1 1\n", 3, TextRule::BadHeader),
+    (b"tablets 1\nhosts 2\nmembers 1 2\n", 3, TextRule::BadActor),
+    (
+        b"tablets 1\nhosts 2\nmembers 1\ntable 1 0 1:0 0:0\n",
+        4,
+        TextRule::BadReplicas,
+    ),
+    (
+        b"tablets 1\nhosts 2\ntable 1 0 0:0 1\n",
+        3,
+        TextRule::BadWord,
+    ),
+    (
+        b"tablets 1\nhosts 2\ntable 1 0 0:0\ntablet 1 1 1:0\n",
+        4,
+        TextRule::BadHeader,
+    ),
+    (
+        b"tablets 1\nhosts 2\nlanes 1\ngo\nhosts 2\n",
+        5,
+        TextRule::BadHeader,
+    ),
+    (
+        b"tablets 1\nhosts 2\nlanes 1\ngo\na: look 0\na: look 9\n",
+        6,
+        TextRule::LabelTwice,
+    ),
+    (
+        b"tablets 1\nhosts 2\nlanes 1\ngo\na: serve 0 a.0\n",
+        5,
+        TextRule::NoLabel,
+    ),
+    (
+        b"tablets 1\nhosts 1\nlanes 1\ngo\ndo 0.0 read 1 -9223372036854775808 x\n",
+        5,
+        TextRule::BadToken,
+    ),
+    (
+        b"tablets 1\nhosts 1\nlanes 1\ngo\ndo 0.0 write 1 5 live:10:6 x\n",
+        5,
+        TextRule::BadCell,
+    ),
+];
+
 #[test]
 fn the_first_fault_is_named(rt: HostRuntime) -> Result<(), Fail> {
-    let cases = [
-        (b"".as_slice(), 1, TextRule::NoHeader),
-        (b"\n# c\n".as_slice(), 3, TextRule::NoHeader),
-        (b"\ntablets 01\n".as_slice(), 2, TextRule::NoHeader),
-        (b"tablets 1\r".as_slice(), 1, TextRule::NoHeader),
-        (b"# \xff\ntablets 1\n".as_slice(), 1, TextRule::BadWord),
-        (b"tablets 1\nhosts 2\n".as_slice(), 3, TextRule::NoGo),
-        (b"tablets 1\ntablets 1\n".as_slice(), 2, TextRule::BadHeader),
-        (b"tablets 1\nlanes 1\n".as_slice(), 2, TextRule::BadHeader),
-        (b"tablets 1\nhosts 0 x\n".as_slice(), 2, TextRule::BadHeader),
-        (
-            b"tablets 1\nhosts 70000\n".as_slice(),
-            2,
-            TextRule::BadNumber,
-        ),
-        (
-            b"tablets 1\nhosts 2\r x\n".as_slice(),
-            2,
-            TextRule::BadNumber,
-        ),
-        (
-            b"tablets 1\nhosts 2\nlanes\n".as_slice(),
-            3,
-            TextRule::BadWord,
-        ),
-        (
-            b"tablets 1\nhosts 2\nshards 1\nlanes 1\n".as_slice(),
-            4,
-            TextRule::BadHeader,
-        ),
-        (
-            b"tablets 1\nhosts 2\ngo\n".as_slice(),
-            3,
-            TextRule::BadHeader,
-        ),
-        (
-            b"tablets 1\nhosts 2\nmembers 1 1\n".as_slice(),
-            3,
-            TextRule::BadHeader,
-        ),
-        (
-            b"tablets 1\nhosts 2\nmembers 1 2\n".as_slice(),
-            3,
-            TextRule::BadActor,
-        ),
-        (
-            b"tablets 1\nhosts 2\nmembers 1\ntable 1 0 1:0 0:0\n".as_slice(),
-            4,
-            TextRule::BadReplicas,
-        ),
-        (
-            b"tablets 1\nhosts 2\ntable 1 0 0:0 1\n".as_slice(),
-            3,
-            TextRule::BadWord,
-        ),
-        (
-            b"tablets 1\nhosts 2\ntable 1 0 0:0\ntablet 1 1 1:0\n".as_slice(),
-            4,
-            TextRule::BadHeader,
-        ),
-        (
-            b"tablets 1\nhosts 2\nlanes 1\ngo\nhosts 2\n".as_slice(),
-            5,
-            TextRule::BadHeader,
-        ),
-        (
-            b"tablets 1\nhosts 2\nlanes 1\ngo\na: look 0\na: look 9\n".as_slice(),
-            6,
-            TextRule::LabelTwice,
-        ),
-        (
-            b"tablets 1\nhosts 2\nlanes 1\ngo\na: serve 0 a.0\n".as_slice(),
-            5,
-            TextRule::NoLabel,
-        ),
-    ];
-    for (text, line, rule) in cases {
+    for (text, line, rule) in FAULTS {
         assert!(rt; is_refused(rt.alloc(), text, line, rule));
     }
     Ok(())
 }
 
-#[test]
-fn the_first_limit_is_named(rt: HostRuntime) -> Result<(), Fail> {
-    let cases = [
-        (b"tablets 1\nhosts 65 x\n".as_slice(), LimitName::Hosts),
-        (
-            b"tablets 1\nhosts 1\nlanes 5\n".as_slice(),
-            LimitName::Lanes,
-        ),
-        (
-            b"tablets 1\nhosts 1\nshards 17\n".as_slice(),
-            LimitName::Shards,
-        ),
-        (
-            b"tablets 1\nhosts 1\ntable 1 11 x\n".as_slice(),
-            LimitName::Log2,
-        ),
-        (
-            b"tablets 1\nhosts 1\ntable 1 10 0:0\ntable 2 0 x\n".as_slice(),
-            LimitName::Tablets,
-        ),
-        (
-            b"tablets 1\nhosts 9\ntable 1 0 0:0 1:0 2:0 3:0 4:0 5:0 6:0 7:0 9:9\n".as_slice(),
-            LimitName::Replicas,
-        ),
-        (
-            b"tablets 1\nhosts 1\nlanes 1\ngo\ndo 0.0 write 1 1 live:1:0000000000000000000000000000000000000000000000000000000000000000000000000000000000000000000000000000000000000000000000000000000000\n".as_slice(),
-            LimitName::Value,
-        ),
-    ];
-    for (text, name) in cases {
-        assert!(rt; passes(rt.alloc(), text, name));
-    }
-    Ok(())
-}
+/// Texts that pass a limit, and its name. Each limit that a text can pass before it is played is there, but `tables`
+/// and `input`, which take long texts.
+const LIMITS: [(&[u8], LimitName); 7] = [
+    (b"tablets 1\nhosts 65 x\n", LimitName::Hosts),
+    (b"tablets 1\nhosts 1\nlanes 5\n", LimitName::Lanes),
+    (b"tablets 1\nhosts 1\nshards 17\n", LimitName::Shards),
+    (b"tablets 1\nhosts 1\ntable 1 11 x\n", LimitName::Log2),
+    (
+        b"tablets 1\nhosts 1\ntable 1 10 0:0\ntable 2 0 x\n",
+        LimitName::Tablets,
+    ),
+    (
+        b"tablets 1\nhosts 9\ntable 1 0 0:0 1:0 2:0 3:0 4:0 5:0 6:0 7:0 9:9\n",
+        LimitName::Replicas,
+    ),
+    (
+        b"tablets 1\nhosts 1\nlanes 1\ngo\ndo 0.0 write 1 1 live:1:\
+        0000000000000000000000000000000000000000000000000000000000000000000000000000000000000000000000000000\
+        000000000000000000000000000000\n",
+        LimitName::Value,
+    ),
+];
 
 /// A text of so many tables.
 fn many_tables(alloc: Global, tables: u8) -> Result<Vec<u8>, Fail> {
@@ -179,10 +156,18 @@ fn many_tables(alloc: Global, tables: u8) -> Result<Vec<u8>, Fail> {
 }
 
 #[test]
-fn tables_are_few(rt: HostRuntime) -> Result<(), Fail> {
-    let text = many_tables(rt.alloc(), 64)?;
-    assert!(rt; counts(rt.alloc(), text.as_slice()) == Some((1, 1, 1, 64, 0)));
+fn the_first_limit_is_named(rt: HostRuntime) -> Result<(), Fail> {
+    for (text, name) in LIMITS {
+        assert!(rt; passes(rt.alloc(), text, name));
+    }
     let text = many_tables(rt.alloc(), 65)?;
     assert!(rt; passes(rt.alloc(), text.as_slice(), LimitName::Tables));
+    Ok(())
+}
+
+#[test]
+fn as_many_tables_as_the_limit_are_read(rt: HostRuntime) -> Result<(), Fail> {
+    let text = many_tables(rt.alloc(), 64)?;
+    assert!(rt; counts(rt.alloc(), text.as_slice()) == Some((1, 1, 1, 64, 0)));
     Ok(())
 }

@@ -16,7 +16,7 @@ use Rattle.cluster_history.specs.declared.data.Output.{Output}
 use Rattle.cluster_machine.specs.Step.{is_accepted, limit_after, limit_by, most_commands, most_entries}
 use Rattle.history_facts.proofs.LegalLemmas.{as_event}
 use Rattle.schedule_data.specs.declared.data.LineAct.TheVariants.{Event as OneEvent}
-use Rattle.schedule_play.specs.Play.{Places, Played, Stop, ended, event_of, going_on, no_places, places_after, played, played_act, played_event, played_lines, stop_after, stop_by, stopped_or}
+use Rattle.schedule_play.specs.Play.{Places, Played, Stop, ended_play, event_of, going_on, no_places, places_after, played, played_act, played_event, played_lines, stop_after, stop_by, stopped_or}
 use Rattle.topo_state.specs.declared.command.Command.{Command}
 use Rattle.trace_law.specs.Traces.{EntriesArePlayed}
 use Rattle.written_text.specs.Schedules.{event_lines, line_event, schedule_from}
@@ -118,14 +118,14 @@ enabled_next number opening front entry c =
     ∙ ap (stop_by number None) (no_limit (length front) (length log) (is_accepted opening (reverse front) entry.event) c.few room)
 
 -- the play of an entry's line adds the entry
-played_entry : (limit : ℕ) (places : Places) (number : ℕ) (opening : Opening) (front : List Entry) (entry : Entry) → Comes opening front entry → played_act number limit places (at_entries opening front) (OneEvent (line_event entry.event)) ≡ ended (at_entries opening (front ++ entry ∷ []))
+played_entry : (limit : ℕ) (places : Places) (number : ℕ) (opening : Opening) (front : List Entry) (entry : Entry) → Comes opening front entry → played_act number limit places (at_entries opening front) (OneEvent (line_event entry.event)) ≡ ended_play (at_entries opening (front ++ entry ∷ []))
 played_entry limit places number opening front entry c =
     ap (played_event number (at_entries opening front)) (said_event places (at_entries opening front) entry.event)
-    ∙ ap (λ (stop : Option Stop). stopped_or stop (at_entries opening front) (ended (with_event (at_entries opening front) entry.event))) (enabled_next number opening front entry c)
-    ∙ ap (λ (e : Entry). ended (at_entries opening (front ++ e ∷ []))) (sym (as_event opening (reverse front) entry c.next))
+    ∙ ap (λ (stop : Option Stop). stopped_or stop (at_entries opening front) (ended_play (with_event (at_entries opening front) entry.event))) (enabled_next number opening front entry c)
+    ∙ ap (λ (e : Entry). ended_play (at_entries opening (front ++ e ∷ []))) (sym (as_event opening (reverse front) entry c.next))
 
-played_on : (limit : ℕ) (opening : Opening) (rest front : List Entry) (places : Places) (number : ℕ) → IsLegalHistory opening (reverse (front ++ rest)) → length (front ++ rest) ≤ most_entries → length (log_of (reverse (front ++ rest))) ≤ most_commands → played_lines limit places (at_entries opening front) (event_lines number rest) ≡ ended (at_entries opening (front ++ rest))
-played_on limit opening [] front places number legal few commands = ap (λ (entries : List Entry). ended (at_entries opening entries)) (sym (append-nil front))
+played_on : (limit : ℕ) (opening : Opening) (rest front : List Entry) (places : Places) (number : ℕ) → IsLegalHistory opening (reverse (front ++ rest)) → length (front ++ rest) ≤ most_entries → length (log_of (reverse (front ++ rest))) ≤ most_commands → played_lines limit places (at_entries opening front) (event_lines number rest) ≡ ended_play (at_entries opening (front ++ rest))
+played_on limit opening [] front places number legal few commands = ap (λ (entries : List Entry). ended_play (at_entries opening entries)) (sym (append-nil front))
 played_on limit opening (entry ∷ rest) front places number legal few commands =
     let more : (front ++ entry ∷ []) ++ rest ≡ front ++ entry ∷ rest = append_assoc front (entry ∷ []) rest in
     let later : Places = places_after places number (at_entries opening front) (OneEvent (line_event entry.event)) in
@@ -136,12 +136,12 @@ played_on limit opening (entry ∷ rest) front places number legal few commands 
     (subst (λ (entries : List Entry). IsLegalHistory opening (reverse entries)) (sym more) legal)
     (subst (λ (entries : List Entry). length entries ≤ most_entries) (sym more) few)
     (subst (λ (entries : List Entry). length (log_of (reverse entries)) ≤ most_commands) (sym more) commands)
-    ∙ ap (λ (entries : List Entry). ended (at_entries opening entries)) more
+    ∙ ap (λ (entries : List Entry). ended_play (at_entries opening entries)) more
 
-no_entries : (number : ℕ) (journal : Journal) → journal.entries ≡ [] → played (schedule_from number journal) ≡ ended journal
+no_entries : (number : ℕ) (journal : Journal) → journal.entries ≡ [] → played (schedule_from number journal) ≡ ended_play journal
 no_entries number journal none =
     ap (λ (entries : List Entry). played_lines most_entries no_places (at_entries journal.opening []) (event_lines number entries)) none
-    ∙ ap (λ (entries : List Entry). ended (at_entries journal.opening entries)) (sym none)
+    ∙ ap (λ (entries : List Entry). ended_play (at_entries journal.opening entries)) (sym none)
 
 pub entries_are_played : EntriesArePlayed
 entries_are_played journal number (inl legal) within =

@@ -5,9 +5,9 @@ use Rattle.cluster_history.specs.Topology.{log_of}
 use Rattle.cluster_history.specs.declared.data.Journal.{Journal}
 use Rattle.cluster_machine.specs.Step.{most_commands, most_entries}
 use Rattle.schedule_data.specs.declared.data.Schedule.{Schedule}
-use Rattle.schedule_play.specs.Play.{ended, played}
+use Rattle.schedule_play.specs.Play.{ended_play, played}
 use Rattle.schedule_text.specs.Texts.{IsScheduleText}
-use Rattle.schedule_write.specs.Written.{written}
+use Rattle.schedule_write.specs.Written.{written_form}
 use Rattle.written_text.specs.Fits.{FitsJournal}
 use Rattle.written_text.specs.Schedules.{schedule_from}
 
@@ -21,16 +21,16 @@ pub record IsWithin (journal : Journal) : Type 0 where
 abbrev pub EntriesArePlayed : Type 0
 EntriesArePlayed =
     (journal : Journal) (number : ℕ) → IsLegalRun journal → IsWithin journal →
-    played (schedule_from number journal) ≡ ended journal
+    played (schedule_from number journal) ≡ ended_play journal
 
 -- The written form of the journal is the text of a schedule. The schedule has the journal's opening and a line for each
 -- of its entries, and its play goes to its end and is the journal.
 pub record IsTrace (journal : Journal) : Type 0 where
   pub schedule : Schedule
-  pub text : IsScheduleText (written journal) schedule
+  pub text : IsScheduleText (written_form journal) schedule
   pub opening : schedule.opening ≡ journal.opening
   pub count : length schedule.lines ≡ length journal.entries
-  pub plays : played schedule ≡ ended journal
+  pub plays : played schedule ≡ ended_play journal
 
 -- the law of the trace
 abbrev pub WrittenRunsAreTraces : Type 0

@@ -6,7 +6,8 @@ pub fn law_entries_are_played()
     ensures { EntriesArePlayed }
 {}
 
-/// The written form of a legal run within the limits is the text of a schedule whose play is that run.
+/// The written form of a legal run of hosts within the limits, whose numbers fit the text's types, is the text of a
+/// schedule whose play is that run.
 pub fn law_written_runs_are_traces()
     ensures { WrittenRunsAreTraces }
 {}

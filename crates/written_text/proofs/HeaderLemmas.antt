@@ -23,7 +23,7 @@ use Rattle.tablet_map.proofs.Joined.{or_left, or_right}
 use Rattle.tablet_map.specs.Calls.{new_tablets}
 use Rattle.tablet_map.specs.declared.tablet.Tablet.{Tablet}
 use Rattle.text_grammar.specs.Judging.{if_within}
-use Rattle.text_grammar.specs.Readings.{given}
+use Rattle.text_grammar.specs.Readings.{or_rule}
 use Rattle.text_grammar.specs.Shapes.{AreEach, Spells}
 use Rattle.text_grammar.specs.declared.faults.TextRule.TheVariants.{BadHeader, BadReplicas}
 use Rattle.token_ring.specs.declared.ring.TabletId.{TabletId}
@@ -176,7 +176,7 @@ spells_tablet opening small least earlier t placed at tablet fits none inside fe
     record { table = t.id; tablet = record { 0 = at }; replicas = tablet.replicas },
     (
       t,
-      (t.id, is_table_number t.id fits, ap (given BadHeader) (found_at earlier t [] none)),
+      (t.id, is_table_number t.id fits, ap (or_rule BadHeader) (found_at earlier t [] none)),
       (
         record { 0 = at },
         (

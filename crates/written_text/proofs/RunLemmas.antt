@@ -18,7 +18,7 @@ use Rattle.schedule_text.specs.Language.{Body, InBody, Nothing, LineSaid, SaidAc
 use Rattle.schedule_text.specs.Texts.{IsScheduleText}
 use Rattle.schedule_words.specs.Labels.{no_labels}
 use Rattle.schedule_write.specs.Events.{event_words}
-use Rattle.schedule_write.specs.Written.{entry_line, header_lines, written, written_lines}
+use Rattle.schedule_write.specs.Written.{entry_line, header_lines, written_form, written_lines}
 use Rattle.text_grammar.specs.Lines.{Leads, Makes, are_ascii, is_comment}
 use Rattle.text_grammar.specs.Shapes.{Either, Spells}
 use Rattle.written_text.proofs.EventLemmas.{AreFew, spells_event}
@@ -113,7 +113,7 @@ entries_plain opening small (entry ∷ entries) good = (
 
 -- ---- the text
 
-run_text : (journal : Journal) → IsValidOpening journal.opening → IsLegalHistory journal.opening (reverse journal.entries) → FitsJournal journal → IsScheduleText (written journal) (schedule_in journal)
+run_text : (journal : Journal) → IsValidOpening journal.opening → IsLegalHistory journal.opening (reverse journal.entries) → FitsJournal journal → IsScheduleText (written_form journal) (schedule_in journal)
 run_text journal valid legal fits =
     let opening : Opening = journal.opening in
     let good = entries_good opening [] journal.entries legal fits.entries in
