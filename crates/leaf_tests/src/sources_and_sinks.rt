@@ -1,6 +1,6 @@
 use fault_io::{
-    CountedReader, CountedWriter, MemorySink, MemorySource, Placed, ReadError, Sink, Source,
-    StdSink, StdSource, Taken, WriteFault, read_all, write_all,
+    CountedReader, CountedWriter, In, MemorySink, MemorySource, Out, Placed, ReadError, Sink,
+    Source, StdSink, StdSource, Taken, WriteFault, read_all, write_all,
 };
 use std::alloc::{AllocError, Global};
 use std::io;
@@ -183,4 +183,47 @@ fn no_byte_comes_after_the_last_flush(rt: HostRuntime) -> Result<(), Fail> {
     assert_eq!(rt; writer.bytes.as_slice(), b"abcde".as_slice());
     assert_eq!(rt; writer.unflushed, 0);
     Ok(())
+}
+
+#[test]
+fn a_read_that_fails_is_counted_once(rt: HostRuntime) -> Result<(), Fail> {
+    let mut reader = CountedReader::new(FaultyReader { reads: 0, fails: 2 });
+    let mut buf = [0; 2];
+    assert_eq!(rt; reader.read(&mut buf), Some(1));
+    assert_eq!(rt; reader.failures(), 0);
+    assert_eq!(rt; reader.read(&mut buf), None);
+    assert_eq!(rt; reader.failures(), 1);
+    assert_eq!(rt; reader.read(&mut buf), Some(1));
+    assert_eq!(rt; reader.failures(), 1);
+    Ok(())
+}
+
+#[test]
+fn a_write_or_a_flush_that_fails_is_counted_once(rt: HostRuntime) -> Result<(), Fail> {
+    let mut writer = CountedWriter::new(FaultyWriter::new(rt.alloc(), 3));
+    assert_eq!(rt; writer.write(b"abcd"), Some(2));
+    assert!(rt; writer.flush());
+    assert_eq!(rt; writer.failures(), 0);
+    assert_eq!(rt; writer.write(b"cd"), None);
+    assert!(rt; writer.flush());
+    assert_eq!(rt; writer.failures(), 1);
+    let mut writer = CountedWriter::new(FaultyWriter::new(rt.alloc(), 2));
+    assert_eq!(rt; writer.write(b"abcd"), Some(2));
+    assert!(rt; !writer.flush());
+    assert_eq!(rt; writer.write(b"cd"), Some(2));
+    assert_eq!(rt; writer.failures(), 1);
+    Ok(())
+}
+
+#[test]
+fn a_write_that_takes_nothing_is_counted(rt: HostRuntime) {
+    let mut room = [0; 2];
+    let full: &mut [u8] = &mut room;
+    let mut writer = CountedWriter::new(full);
+    assert_eq!(rt; writer.write(b"abc"), Some(2));
+    assert_eq!(rt; writer.failures(), 0);
+    assert_eq!(rt; writer.write(b"c"), None);
+    assert_eq!(rt; writer.failures(), 1);
+    assert_eq!(rt; writer.write(b""), Some(0));
+    assert_eq!(rt; writer.failures(), 1);
 }

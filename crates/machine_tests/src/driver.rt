@@ -3,7 +3,6 @@ ghost use Rattle.std.specs.Prelude.{◌≡◌, IfOk, IsTrue};
 ghost use Rattle.cluster_history.specs.Legal.{HasActor, IsFitEvent, opening_journal};
 ghost use Rattle.cluster_history.specs.Openings.{HasLane};
 ghost use Rattle.schedule_data.specs.Playable.{IsPlayable};
-ghost use Rattle.topo_state.specs.Rules.{IsFit};
 
 use base_ids::{Actor, EventRule, HostId, Items, LaneId, LimitName, MsgRef, NoMemory};
 use cluster_history::{Event, Journal, Opening};
@@ -14,7 +13,7 @@ use schedule_play::{PlayError, play};
 use schedule_text::{ParseError, parse};
 use schedule_write::write;
 use std::alloc::Global;
-use topo_state::{Command, Table, TableList};
+use topo_state::{Table, TableList};
 
 /// Hosts 0 to 2, and table 1 of one tablet on all of them.
 pub(crate) const THREE: &[u8] = b"tablets 1\nhosts 3\nlanes 1\ntable 1 0 0:0 1:0 2:0\ngo\n";
@@ -178,19 +177,6 @@ fn has_lane(opening: &Opening, lane: LaneId) -> bool
     lane.host.0 < opening.hosts && lane.lane < opening.lanes
 }
 
-/// Whether what the command would create is of a fit size.
-fn is_fit_command(command: &Command) -> bool
-    ensures { IsTrue result → IsFit command.now }
-{
-    match command {
-        Command::CreateTable { log2, replicas, .. } => {
-            let count = replicas.as_slice().len();
-            *log2 <= 10 && count >= 1 && count <= 8
-        }
-        _ => true,
-    }
-}
-
 /// Whether whom the event names is in the opening, and what it would create is of a fit size.
 fn is_fit(opening: &Opening, event: &Event) -> bool
     ensures actor { IsTrue result → HasActor opening.now event.now }
@@ -209,7 +195,7 @@ fn is_fit(opening: &Opening, event: &Event) -> bool
         | Event::TakeChunk { host, .. } => host.0 < opening.hosts,
         Event::Look { topo } | Event::Hear { topo, .. } => topo.0 < opening.hosts,
         Event::Ask { topo, host, .. } => topo.0 < opening.hosts && host.0 < opening.hosts,
-        Event::Propose { topo, command } => topo.0 < opening.hosts && is_fit_command(command),
+        Event::Propose { topo, command } => topo.0 < opening.hosts && command.is_fit(),
         Event::Restart { actor } => match actor {
             Actor::Lane(lane) => has_lane(opening, *lane),
             Actor::Host(host) | Actor::Topo(host) => host.0 < opening.hosts,

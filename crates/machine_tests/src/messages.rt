@@ -4,7 +4,7 @@ use crate::runs::{Run, check_runs};
 use std::test::Fail;
 
 /// Of each message, one that is taken twice, and one that is taken when nobody waits for it any more.
-const AGAIN: [Run; 7] = [
+const AGAIN: [Run; 8] = [
     (
         THREE,
         b"w: begin 0.0 write 1 5 live:1:61\na: serve 0 w.0\nb: serve 0 w.0\ntake 0.0 a.0\ntake 0.0 a.0\ntake 0.0 b.0\n\
@@ -16,8 +16,8 @@ end replies 3 log 0 version 1 fence 1\n",
     ),
     (
         THREE,
-        b"r: begin 2.0 read 1 5\na: serve 0 r.0\ndo 0.0 write 1 5 live:1:61\nb: serve 0 r.0\ntake 2.0 a.0\ntake 2.0 b.0\n\
-c: serve 2 r.2\ntake 2.0 c.0\ntake 2.0 b.0\n",
+        b"r: begin 2.0 read 1 5\na: serve 0 r.0\ndo 0.0 write 1 5 live:1:61\nb: serve 0 r.0\ntake 2.0 a.0\n\
+take 2.0 b.0\nc: serve 2 r.2\ntake 2.0 c.0\ntake 2.0 b.0\n",
         13,
         b"reply 0.0 1 v1 write ok\nreply 2.0 1 v1 read ok none\nend replies 2 log 0 version 1 fence 1\n",
     ),
@@ -59,16 +59,25 @@ propose 0 create 2 0 0:0\nsync\nanswer 0 p.0\nhear 0 a.0\nlook 0\npropose 0 fenc
         b"topo 0 accepted 1 v2\ntopo 0 accepted 2 v2\nend replies 0 log 2 version 2 fence 2\n",
     ),
     (
+        THREE,
+        b"look 0\nquiet 0 1\np: ask 0 0 drain 1\na: answer 0 p.0\nb: answer 0 p.0\nhear 0 a.0\nhear 0 a.0\nhear 0 b.0\n\
+quiet 1 1\nq: ask 0 1 drain 1\nc: answer 1 q.0\nhear 0 c.0\nquiet 2 1\nr: ask 0 2 drain 1\nd: answer 2 r.0\n\
+hear 0 d.0\npropose 0 create 2 0 0:0\nsync\ndrain 0\ne: answer 0 p.0\nhear 0 e.0\nhear 0 a.0\n\
+propose 0 create 3 0 0:0\n",
+        37,
+        b"topo 0 accepted 1 v2\ntopo 0 accepted 2 v3\nend replies 0 log 2 version 3 fence 1\n",
+    ),
+    (
         ONE,
-        b"step 0 resize 1 split\nq: ask 0 0 ready 1\na: answer 0 q.0\nb: answer 0 q.0\nhear 0 b.0\nhear 0 a.0\nhear 0 a.0\n\
-step 0 finalize 1 1\nhear 0 a.0\ndo 0.0 read 1 5\n",
+        b"step 0 resize 1 split\nq: ask 0 0 ready 1\na: answer 0 q.0\nb: answer 0 q.0\nhear 0 b.0\nhear 0 a.0\n\
+hear 0 a.0\nstep 0 finalize 1 1\nhear 0 a.0\ndo 0.0 read 1 5\n",
         24,
         b"topo 0 accepted 1 v2\ntopo 0 accepted 2 v3\nreply 0.0 1 v3 read ok none\n\
 end replies 1 log 2 version 3 fence 1\n",
     ),
 ];
 
-/// A host loses its pulls, a lane its live requests, and a coordinator its look and what it heard.
+/// What a restart takes from a host, from a lane and from a coordinator.
 const RESTARTS: [Run; 5] = [
     (
         FOUR,
@@ -81,9 +90,9 @@ topo 0 accepted 4 v5\nreply 3.0 1 v5 read ok live:1:61\nend replies 2 log 4 vers
     ),
     (
         THREE,
-        b"w: begin 0.0 write 1 5 live:1:61\na: serve 0 w.0\nb: serve 1 w.1\nc: serve 2 w.2\ntake 0.0 a.0\ntake 0.0 b.0\n\
-take 0.0 c.0\nr: begin 0.0 read 1 5\nrestart lane 0.0\nd: serve 0 r.0\ne: serve 1 r.1\ntake 0.0 d.0\ntake 0.0 e.0\n\
-do 0.0 read 1 5\n",
+        b"w: begin 0.0 write 1 5 live:1:61\na: serve 0 w.0\nb: serve 1 w.1\nc: serve 2 w.2\ntake 0.0 a.0\n\
+take 0.0 b.0\ntake 0.0 c.0\nr: begin 0.0 read 1 5\nrestart lane 0.0\nd: serve 0 r.0\ne: serve 1 r.1\ntake 0.0 d.0\n\
+take 0.0 e.0\ndo 0.0 read 1 5\n",
         18,
         b"reply 0.0 1 v1 write ok\nreply 0.0 3 v1 read ok live:1:61\nend replies 2 log 0 version 1 fence 1\n",
     ),

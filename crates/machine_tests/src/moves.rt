@@ -115,8 +115,8 @@ fn told_by(entries: &[Entry], of: HostId) -> (u64, u64) {
     (applied, floor)
 }
 
-/// What the machine lends after a text: the log's length, version and fence, and what host 0 has applied, its version, its
-/// fence and its floor.
+/// What the machine lends after a text: the log's length, version and fence, and what host 0 has applied, its version,
+/// its fence and its floor.
 fn lent(alloc: Global, text: &[u8]) -> Result<([u64; 3], [u64; 4]), Trouble> {
     let machine = played(alloc, text)?;
     if machine.journal().opening.hosts == 0 {

@@ -42,6 +42,10 @@ const STREAMING: &[u8] =
 const PULLED: &[u8] = b"step 0 start 1 0 2:0 3:0\nstep 0 advance 1 write_both_read_old\n\
 step 0 advance 1 streaming\nstream 0 1\n";
 
+/// 70: the ask for the done pull, which host 3 has lost since.
+const DROPPED: &[u8] = b"step 0 start 1 0 2:0 3:0\nstep 0 advance 1 write_both_read_old\n\
+step 0 advance 1 streaming\nstream 0 1\nrestart host 3\n";
+
 /// Session 1 streams nothing any more, and host 2 is to be cleaned.
 const CLEANING: &[u8] = b"step 0 start 1 0 2:0 3:0\nstep 0 advance 1 write_both_read_old\n\
 step 0 advance 1 streaming\nstream 0 1\nstep 0 advance 1 write_both_read_new\n\
@@ -53,6 +57,9 @@ const BACK: &[u8] = b"step 0 start 1 0 2:0 3:0\nstep 0 advance 1 cleanup_target\
 /// Table 1 is to be split, of whose hosts one has told that it is ready.
 const SPLIT: &[u8] =
     b"step 0 resize 1 split\nq: ask 0 1 ready 1\na: answer 1 q.0\nhear 0 a.0\ndrain 0\n";
+
+/// 23: an ask whether host 0 is ready for a split, which is over.
+const FINALIZED: &[u8] = b"step 0 resize 1 split\nready 0 1\nstep 0 finalize 1 1\n";
 
 /// Session 1 is in `streaming`, and nothing was pulled.
 const UNDONE: &[u8] = b"step 0 start 1 0 2:0 3:0\nstep 0 advance 1 write_both_read_old\n\
@@ -71,7 +78,8 @@ fn event_of(alloc: Global, line: &[u8]) -> Result<Event, Trouble> {
         .ok_or(Trouble::Line)
 }
 
-/// The first rule that the event breaks. The refusal leaves the journal as it was, and the next entry has the next number.
+/// The first rule that the event breaks. The refusal leaves the journal as it was, and the next entry has the next
+/// number.
 fn ruling(alloc: Global, machine: &mut Machine, event: Event) -> Result<EventRule, Trouble> {
     let before = write(alloc, machine.journal())?;
     let told = report(alloc, machine.journal())?;
@@ -137,11 +145,13 @@ const OF_MESSAGES: [Case; 24] = [
     (PULLED, b"hear 0 22.0\n", EventRule::NoMessage),
 ];
 
-const OF_MOVES: [Case; 20] = [
+const OF_MOVES: [Case; 22] = [
     (UNTRUE, b"answer 1 1.0\n", EventRule::NotTrue),
     (UNTRUE, b"answer 1 2.0\n", EventRule::NotTrue),
     (UNTRUE, b"answer 1 3.0\n", EventRule::NotTrue),
     (UNTRUE, b"answer 1 4.0\n", EventRule::NotTrue),
+    (DROPPED, b"answer 3 70.0\n", EventRule::NotTrue),
+    (FINALIZED, b"answer 0 23.0\n", EventRule::NotTrue),
     (b"", b"pull 3 1\n", EventRule::NoStream),
     (STREAMING, b"pull 2 1\n", EventRule::NoStream),
     (STREAMING, b"pull 3 2\n", EventRule::NoStream),

@@ -41,7 +41,7 @@ use Rattle.overlap_law.proofs.CountLemmas.{count_more}
 use Rattle.overlap_law.proofs.SaidLemmas.{sent_said}
 use Rattle.overlap_law.proofs.SeenLemmas.{seen_cases, stands_split}
 use Rattle.overlap_law.proofs.SettledLemmas.{settled-later, settled_now}
-use Rattle.overlap_law.specs.ClientEvents.{begin_event, named, reply_event, seen_in, seen_of}
+use Rattle.overlap_law.specs.ClientEvents.{begin_event, named_request, reply_event, seen_in, seen_of}
 use Rattle.stream_law.specs.Settled.{has_said, is_settled}
 
 -- a replica that counts as answered to a write said that it wrote the cell
@@ -94,19 +94,19 @@ not_ack : (request other : Named) (operation : Operation) → WriteAcked other �
 not_ack request other (WriteOf table token cell) e = cc
 not_ack request other (ReadOf table token) e = cc
 
-pub acked_settled : (opening : Opening) (history : History) → IsLegalHistory opening history → (place : ℕ) (lane : LaneId) (op : OpId) → Stands (seen_in history) place (WriteAcked (named lane op)) → is_settled opening history lane op ≡ true
+pub acked_settled : (opening : Opening) (history : History) → IsLegalHistory opening history → (place : ℕ) (lane : LaneId) (op : OpId) → Stands (seen_in history) place (WriteAcked (named_request lane op)) → is_settled opening history lane op ≡ true
 acked_settled opening =
-    legal_induction opening (λ history. (place : ℕ) (lane : LaneId) (op : OpId) → Stands (seen_in history) place (WriteAcked (named lane op)) → is_settled opening history lane op ≡ true)
+    legal_induction opening (λ history. (place : ℕ) (lane : LaneId) (op : OpId) → Stands (seen_in history) place (WriteAcked (named_request lane op)) → is_settled opening history lane op ≡ true)
     (λ place lane op e. cc)
     (λ history event legal actor fit fine before place lane op e.
     settled-later opening history (entry_of opening history event) lane op
-    (elim (stands_split (seen_in history) (seen_of history event (outputs_of opening history event)) place (WriteAcked (named lane op)) e) [
+    (elim (stands_split (seen_in history) (seen_of history event (outputs_of opening history event)) place (WriteAcked (named_request lane op)) e) [
       | inl old ↦ before place lane op old
       | inr behind ↦
-          elim (seen_cases opening history event behind.offset (WriteAcked (named lane op)) behind.stands) [
-            | inl began ↦ absurd (not_ack (named began.lane (next_op history began.lane)) (named lane op) began.operation began.is)
+          elim (seen_cases opening history event behind.offset (WriteAcked (named_request lane op)) behind.stands) [
+            | inl began ↦ absurd (not_ack (named_request began.lane (next_op history began.lane)) (named_request lane op) began.operation began.is)
             | inr told ↦
-                let ack = ack_of (named told.lane told.op) (named lane op) told.reply told.is in
+                let ack = ack_of (named_request told.lane told.op) (named_request lane op) told.reply told.is in
                 let settled : is_settled opening history told.lane told.op ≡ true = replied_ok opening history told.lane event told.op told.version told.kind told.reply legal (replies opening history told.lane event told.place told.op told.version told.kind told.reply told.own fine told.stands) ack.0 in
                 let P : Named → Type 0 = λ n. is_settled opening history n.lane n.op ≡ true in
                 subst P ack.1 settled

@@ -14,7 +14,7 @@ use Rattle.cluster_history.specs.Requests.{begun_count, is_begin_of}
 use Rattle.cluster_history.specs.declared.data.Entry.{Entry}
 use Rattle.cluster_history.specs.declared.data.Output.{Output}
 use Rattle.cluster_history.specs.declared.data.Output.TheVariants.{Reply as Replied}
-use Rattle.overlap_law.specs.ClientEvents.{named, reply_event, reply_events}
+use Rattle.overlap_law.specs.ClientEvents.{named_request, reply_event, reply_events}
 use Rattle.overlap_law.specs.Counts.{is_at_lane, or_zero, count_at, AreCounts}
 use Rattle.history_facts.proofs.NameLemmas.{same_lane-same}
 
@@ -43,7 +43,7 @@ count_next old new lane number is updates other =
 
 pub reply_events-append : (lane : LaneId) (outputs more : List Output) → reply_events lane (outputs ++ more) ≡ reply_events lane outputs ++ reply_events lane more
 reply_events-append lane [] more = refl
-reply_events-append lane (Replied op version kind reply ∷ outputs) more = ap (λ l. reply_event (named lane op) reply ∷ l) (reply_events-append lane outputs more)
+reply_events-append lane (Replied op version kind reply ∷ outputs) more = ap (λ l. reply_event (named_request lane op) reply ∷ l) (reply_events-append lane outputs more)
 reply_events-append lane (output ∷ outputs) more = reply_events-append lane outputs more
 
 count_step : (begin : Bool) (count rest : ℕ) → count ≤ rest → (if begin then count + 1 else count) ≤ rest + 1

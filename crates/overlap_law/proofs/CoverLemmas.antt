@@ -42,7 +42,7 @@ use Rattle.stage_graph.specs.declared.table.Selector.TheVariants.{New, Old}
 use Rattle.tablet_map.specs.declared.tablet.Tablet.{Tablet}
 use Rattle.tablet_map.specs.declared.tablet.Transition.{Transition}
 use Rattle.token_ring.specs.declared.token.Token.{Token}
-use Rattle.topo_state.specs.Lists.{chosen, chosen_by, is_both, reads_of, stage_in, writes_both, writes_of}
+use Rattle.topo_state.specs.Lists.{chosen_list, chosen_by, is_both, reads_of, stage_in, writes_both, writes_of}
 use Rattle.stream_law.specs.Covered.{covered_count, holds, last_version}
 use Rattle.overlap_law.proofs.CountLemmas.{count_more, count_more_in}
 use Rattle.overlap_law.proofs.KeptLemmas.{HoldsOrLeft, holds-later, recent-before, recent_last, said_kept}
@@ -56,7 +56,7 @@ use Rattle.stream_law.specs.Settled.{has_said, is_settled, written_count}
 
 -- ---- lists
 
-pub chosen_old : (tablet : Tablet) → chosen Old tablet ≡ tablet.replicas
+pub chosen_old : (tablet : Tablet) → chosen_list Old tablet ≡ tablet.replicas
 chosen_old tablet = by_transition tablet.transition
   where
     by_transition : (t : Option Transition) → chosen_by Old tablet.replicas t ≡ tablet.replicas
@@ -140,7 +140,7 @@ covered_by :
     ((replica : Replica) → said replica ≡ true → HoldsOrLeft opening history key cell replica) →
     base_need (length written.replicas) + extra (writes (stage_in written)) ≤ count_by said (writes_of written) →
     KeepsQuorum old new written → Matters old new written (reads_of tablet) →
-    (version.0 ≡ last_version opening history → writes_both tablet ≡ true → Matters old new written (chosen Old tablet)) →
+    (version.0 ≡ last_version opening history → writes_both tablet ≡ true → Matters old new written (chosen_list Old tablet)) →
     length written.replicas ≡ length tablet.replicas → IsCovered opening history version tablet key cell
 covered_by opening history key cell said old new written tablet version shown kept enough keeps reads own size =
     record {
@@ -148,7 +148,7 @@ covered_by opening history key cell said old new written tablet version shown ke
           (quorum_holds opening history key cell said old new written (reads_of tablet) (base_need (length written.replicas)) shown kept keeps reads enough);
       old = λ newest both. subst (λ n. base_need n ≤ covered_count opening history key cell tablet.replicas) size
           (subst (λ list. base_need (length written.replicas) ≤ covered_count opening history key cell list) (chosen_old tablet)
-          (quorum_holds opening history key cell said old new written (chosen Old tablet) (base_need (length written.replicas)) shown kept keeps (own newest both) enough));
+          (quorum_holds opening history key cell said old new written (chosen_list Old tablet) (base_need (length written.replicas)) shown kept keeps (own newest both) enough));
     }
 
 not_newest : (last version : ℕ) → version < last → version ≡ last → ⊥
@@ -254,7 +254,7 @@ IsFed opening history entry =
     view_with (opening_state opening) (log_of history) (last_version opening history) (key_of (WriteOf table token cell)).table (key_of (WriteOf table token cell)).token.value ≡ Some old →
     view_with (opening_state opening) (log_of (entry ∷ history)) (last_version opening (entry ∷ history)) (key_of (WriteOf table token cell)).table (key_of (WriteOf table token cell)).token.value ≡ Some new →
     stage_in old ≡ Some Streaming → stage_in new ≡ Some WriteBothReadNew →
-    base_need (length old.replicas) ≤ covered_count opening history (key_of (WriteOf table token cell)) cell (chosen New old)
+    base_need (length old.replicas) ≤ covered_count opening history (key_of (WriteOf table token cell)) cell (chosen_list New old)
 
 module _ (opening : Opening) (history : History) (event : Event) (valid : IsValidOpening opening) (legal : IsLegalHistory opening history) (legal_now : IsLegalHistory opening (entry_of opening history event ∷ history)) (covers : Cover opening history) (lane : LaneId) (op : OpId) (request : Request) (table : TableId) (token : Token) (cell : Cell) (settled : is_settled opening history lane op ≡ true) (begun : request_at opening history lane op ≡ Some request) (is : request.operation ≡ WriteOf table token cell) where
   -- while the log's version stays: no host of a list that matters drops the key

@@ -27,7 +27,7 @@ use Rattle.stage_graph.specs.declared.kind.Kind.{Kind}
 use Rattle.overlap_law.proofs.CountLemmas.{found_any}
 use Rattle.overlap_law.proofs.SaidLemmas.{some_same}
 use Rattle.overlap_law.proofs.SeenLemmas.{IsBegun, begin_begins, begin_ends, reply_begins, reply_ends, seen_cases, stands_split}
-use Rattle.overlap_law.specs.ClientEvents.{named, reply_event, seen_in, seen_of}
+use Rattle.overlap_law.specs.ClientEvents.{named_request, reply_event, seen_in, seen_of}
 
 -- ---- what was seen was begun
 
@@ -42,11 +42,11 @@ begun-now : (history : History) (entry : Entry) (lane : LaneId) → is_begin_of 
 begun-now history entry lane e = ap (λ b. if b then begun_count history lane + 1 else begun_count history lane) e
 
 -- what an event begins, by what is seen of it
-begun_name : (history : History) (event : Event) (offset : ℕ) (seen : ClientEvent) (request : Named) → IsBegun history event offset seen → begun_by seen ≡ Some request → (lane : LaneId) × (is_begin_of lane event ≡ true) × (request ≡ named lane (next_op history lane))
+begun_name : (history : History) (event : Event) (offset : ℕ) (seen : ClientEvent) (request : Named) → IsBegun history event offset seen → begun_by seen ≡ Some request → (lane : LaneId) × (is_begin_of lane event ≡ true) × (request ≡ named_request lane (next_op history lane))
 begun_name history event offset seen request began e =
     let P : Event → Type 0 = λ v. is_begin_of began.lane v ≡ true in
-    let there : Some request ≡ Some (named began.lane (next_op history began.lane)) = sym e ∙ ap begun_by began.is ∙ begin_begins (named began.lane (next_op history began.lane)) began.operation in
-    (began.lane, subst P (sym began.event_is) (same_lane-refl began.lane), some_same request (named began.lane (next_op history began.lane)) there)
+    let there : Some request ≡ Some (named_request began.lane (next_op history began.lane)) = sym e ∙ ap begun_by began.is ∙ begin_begins (named_request began.lane (next_op history began.lane)) began.operation in
+    (began.lane, subst P (sym began.event_is) (same_lane-refl began.lane), some_same request (named_request began.lane (next_op history began.lane)) there)
 
 pub seen_begun : (opening : Opening) (history : History) → IsLegalHistory opening history → (place : ℕ) (seen : ClientEvent) (request : Named) → Stands (seen_in history) place seen → begun_by seen ≡ Some request → request.op.0 ≤ begun_count history request.lane
 seen_begun opening =
@@ -61,7 +61,7 @@ seen_begun opening =
                 let name = begun_name history event behind.offset seen request began b in
                 let P : Named → Type 0 = λ n. n.op.0 ≤ begun_count (entry_of opening history event ∷ history) n.lane in
                 subst P (sym name.2) (omega (arith, begun-now history (entry_of opening history event) name.0 name.1))
-            | inr told ↦ let wrong : Some request ≡ None = sym b ∙ ap begun_by told.is ∙ reply_begins (named told.lane told.op) told.reply in cc
+            | inr told ↦ let wrong : Some request ≡ None = sym b ∙ ap begun_by told.is ∙ reply_begins (named_request told.lane told.op) told.reply in cc
           ]
     ])
 
@@ -74,9 +74,9 @@ replied_begun opening history lane event op version kind reply (replies_decided 
 replied_begun opening history lane event op version kind reply (replies_given_up request live begun) =
     omega (arith, live_begun history lane op live, begun-rises history (entry_of opening history event) lane)
 
-ended_name : (lane : LaneId) (op : OpId) (reply : Reply) (seen : ClientEvent) (request : Named) → seen ≡ reply_event (named lane op) reply → ended_by seen ≡ Some request → request ≡ named lane op
+ended_name : (lane : LaneId) (op : OpId) (reply : Reply) (seen : ClientEvent) (request : Named) → seen ≡ reply_event (named_request lane op) reply → ended_by seen ≡ Some request → request ≡ named_request lane op
 ended_name lane op reply seen request is e =
-    some_same request (named lane op) (sym e ∙ ap ended_by is ∙ reply_ends (named lane op) reply)
+    some_same request (named_request lane op) (sym e ∙ ap ended_by is ∙ reply_ends (named_request lane op) reply)
 
 pub seen_ended : (opening : Opening) (history : History) → IsLegalHistory opening history → (place : ℕ) (request : Named) → EndsAt (seen_in history) place request → request.op.0 ≤ begun_count history request.lane
 seen_ended opening =
@@ -87,7 +87,7 @@ seen_ended opening =
       | inl old ↦ omega (arith, before place request (record { event = ends.event; stands = old; ends = ends.ends }), begun-rises history (entry_of opening history event) request.lane)
       | inr behind ↦
           elim (seen_cases opening history event behind.offset ends.event behind.stands) [
-            | inl began ↦ let wrong : Some request ≡ None = sym ends.ends ∙ ap ended_by began.is ∙ begin_ends (named began.lane (next_op history began.lane)) began.operation in cc
+            | inl began ↦ let wrong : Some request ≡ None = sym ends.ends ∙ ap ended_by began.is ∙ begin_ends (named_request began.lane (next_op history began.lane)) began.operation in cc
             | inr told ↦
                 let P : Named → Type 0 = λ n. n.op.0 ≤ begun_count (entry_of opening history event ∷ history) n.lane in
                 subst P (sym (ended_name told.lane told.op told.reply ends.event request told.is ends.ends))
@@ -108,20 +108,20 @@ not_live opening history event lane op e =
     and_false (begins_request history event lane op || is_live history lane op) (not (replies_to (entry_of opening history event) lane op || is_restart_of (ByLane lane) event))
     (ap not (or_first (replies_to (entry_of opening history event) lane op) (is_restart_of (ByLane lane) event) e))
 
-pub live_unended : (opening : Opening) (history : History) → IsLegalHistory opening history → (place : ℕ) (lane : LaneId) (op : OpId) → is_live history lane op ≡ true → EndsAt (seen_in history) place (named lane op) → ⊥
+pub live_unended : (opening : Opening) (history : History) → IsLegalHistory opening history → (place : ℕ) (lane : LaneId) (op : OpId) → is_live history lane op ≡ true → EndsAt (seen_in history) place (named_request lane op) → ⊥
 live_unended opening =
-    legal_induction opening (λ history. (place : ℕ) (lane : LaneId) (op : OpId) → is_live history lane op ≡ true → EndsAt (seen_in history) place (named lane op) → ⊥)
+    legal_induction opening (λ history. (place : ℕ) (lane : LaneId) (op : OpId) → is_live history lane op ≡ true → EndsAt (seen_in history) place (named_request lane op) → ⊥)
     (λ place lane op live ends. cc)
     (λ history event legal actor fit fine before place lane op live ends.
     elim (stands_split (seen_in history) (seen_of history event (outputs_of opening history event)) place ends.event ends.stands) [
       | inl old ↦
-          let was : EndsAt (seen_in history) place (named lane op) = record { event = ends.event; stands = old; ends = ends.ends } in
-          before place lane op (live_before history (entry_of opening history event) lane op (seen_ended opening history legal place (named lane op) was) live).live was
+          let was : EndsAt (seen_in history) place (named_request lane op) = record { event = ends.event; stands = old; ends = ends.ends } in
+          before place lane op (live_before history (entry_of opening history event) lane op (seen_ended opening history legal place (named_request lane op) was) live).live was
       | inr behind ↦
           elim (seen_cases opening history event behind.offset ends.event behind.stands) [
-            | inl began ↦ let wrong : Some (named lane op) ≡ None = sym ends.ends ∙ ap ended_by began.is ∙ begin_ends (named began.lane (next_op history began.lane)) began.operation in cc
+            | inl began ↦ let wrong : Some (named_request lane op) ≡ None = sym ends.ends ∙ ap ended_by began.is ∙ begin_ends (named_request began.lane (next_op history began.lane)) began.operation in cc
             | inr told ↦
-                let name : named lane op ≡ named told.lane told.op = ended_name told.lane told.op told.reply ends.event (named lane op) told.is ends.ends in
+                let name : named_request lane op ≡ named_request told.lane told.op = ended_name told.lane told.op told.reply ends.event (named_request lane op) told.is ends.ends in
                 let P : Named → Type 0 = λ n. is_live (entry_of opening history event ∷ history) n.lane n.op ≡ true in
                 let still : is_live (entry_of opening history event ∷ history) told.lane told.op ≡ true = subst P name live in
                 let gone : is_live (entry_of opening history event ∷ history) told.lane told.op ≡ false = not_live opening history event told.lane told.op (replies_now opening history event told.lane told.op told.version told.kind told.reply told.place told.own told.stands) in

@@ -31,7 +31,7 @@ use Rattle.register_model.specs.declared.data.Key.{Key}
 use Rattle.register_model.specs.declared.data.Request.{Request as Named}
 use Rattle.stage_graph.specs.declared.kind.Kind.{Kind}
 use Rattle.std.proofs.lemmas.Option.{slice_get_within}
-use Rattle.overlap_law.specs.ClientEvents.{begin_event, named, reply_event, reply_events, seen_in, seen_of}
+use Rattle.overlap_law.specs.ClientEvents.{begin_event, named_request, reply_event, reply_events, seen_in, seen_of}
 
 -- ---- places of what clients saw
 
@@ -92,11 +92,11 @@ seen_before (first ∷ history) number later entry other e f h =
 
 -- ---- begins and replies, as clients saw them
 
-pub begun_seen : (history : History) (number : ℕ) (lane : LaneId) (op : OpId) (operation : Operation) → IsBegunAt history number lane op operation → Stands (seen_in history) (length (seen_in (history_before history number)) + 0) (begin_event (named lane op) operation)
+pub begun_seen : (history : History) (number : ℕ) (lane : LaneId) (op : OpId) (operation : Operation) → IsBegunAt history number lane op operation → Stands (seen_in history) (length (seen_in (history_before history number)) + 0) (begin_event (named_request lane op) operation)
 begun_seen history number lane op operation begun =
-    let name : named lane (next_op (history_before history number) lane) ≡ named lane op = ap (λ o. named lane o) (sym begun.next) in
-    let P : Event → Type 0 = λ v. slice_get (seen_of (history_before history number) v begun.entry.outputs) 0 ≡ Some (begin_event (named lane op) operation) in
-    seen_at history number begun.entry 0 (begin_event (named lane op) operation) begun.stands
+    let name : named_request lane (next_op (history_before history number) lane) ≡ named_request lane op = ap (λ o. named_request lane o) (sym begun.next) in
+    let P : Event → Type 0 = λ v. slice_get (seen_of (history_before history number) v begun.entry.outputs) 0 ≡ Some (begin_event (named_request lane op) operation) in
+    seen_at history number begun.entry 0 (begin_event (named_request lane op) operation) begun.stands
     (subst P (sym begun.begins) (ap (λ n. Some (begin_event n operation)) name))
 
 -- a request that was begun was seen to begin
@@ -104,7 +104,7 @@ pub record Began (events : List ClientEvent) (request : Named) (operation : Oper
   pub at : ℕ
   pub stands : Stands events at (begin_event request operation)
 
-pub request_seen : (opening : Opening) (history : History) (lane : LaneId) (op : OpId) (request : Request) → request_at opening history lane op ≡ Some request → Began (seen_in history) (named lane op) request.operation
+pub request_seen : (opening : Opening) (history : History) (lane : LaneId) (op : OpId) (request : Request) → request_at opening history lane op ≡ Some request → Began (seen_in history) (named_request lane op) request.operation
 request_seen opening history lane op request begun =
     let first : IsBegunBy history lane op request.operation = request_entry opening history lane op request begun in
     record { at = length (seen_in (history_before history first.number)) + 0; stands = begun_seen history first.number lane op request.operation first.begun }
@@ -113,22 +113,22 @@ request_seen opening history lane op request begun =
 pub written_seen : (history : History) (key : Key) (cell : Cell) → IsWritten history key cell → WrittenBefore (seen_in history) (length (seen_in history)) key cell
 written_seen history key cell written =
     let place = length (seen_in (history_before history written.at)) + 0 in
-    let stands : Stands (seen_in history) place (WriteBegun (named written.lane written.op) key cell) = begun_seen history written.at written.lane written.op (WriteOf key.table key.token cell) written.begins in
-    record { at = place; writer = named written.lane written.op; earlier = slice_get_within (seen_in history) place (WriteBegun (named written.lane written.op) key cell) stands; stands = stands }
+    let stands : Stands (seen_in history) place (WriteBegun (named_request written.lane written.op) key cell) = begun_seen history written.at written.lane written.op (WriteOf key.table key.token cell) written.begins in
+    record { at = place; writer = named_request written.lane written.op; earlier = slice_get_within (seen_in history) place (WriteBegun (named_request written.lane written.op) key cell) stands; stands = stands }
 
 -- a reply among outputs is seen
 pub record IsSeenTold (events : List ClientEvent) (seen : ClientEvent) : Type 0 where
   pub offset : ℕ
   pub stands : slice_get events offset ≡ Some seen
 
-reply_among : (lane : LaneId) (outputs : List Output) (place : ℕ) (op : OpId) (version : Version) (kind : Kind) (reply : Reply) → slice_get outputs place ≡ Some (Replied op version kind reply) → IsSeenTold (reply_events lane outputs) (reply_event (named lane op) reply)
+reply_among : (lane : LaneId) (outputs : List Output) (place : ℕ) (op : OpId) (version : Version) (kind : Kind) (reply : Reply) → slice_get outputs place ≡ Some (Replied op version kind reply) → IsSeenTold (reply_events lane outputs) (reply_event (named_request lane op) reply)
 reply_among lane [] place op version kind reply e = cc
 reply_among lane (Replied number at what told ∷ outputs) zero op version kind reply e =
     let o : number ≡ op = cc in
     let r : told ≡ reply = cc in
-    record { offset = 0; stands = ap (λ n. Some (reply_event (named lane n) told)) o ∙ ap (λ t. Some (reply_event (named lane op) t)) r }
+    record { offset = 0; stands = ap (λ n. Some (reply_event (named_request lane n) told)) o ∙ ap (λ t. Some (reply_event (named_request lane op) t)) r }
 reply_among lane (Replied number at what told ∷ outputs) (suc place) op version kind reply e =
-    let rest : IsSeenTold (reply_events lane outputs) (reply_event (named lane op) reply) = reply_among lane outputs place op version kind reply e in
+    let rest : IsSeenTold (reply_events lane outputs) (reply_event (named_request lane op) reply) = reply_among lane outputs place op version kind reply e in
     record { offset = suc rest.offset; stands = rest.stands }
 reply_among lane (output ∷ outputs) zero op version kind reply e = cc e
 reply_among lane (output ∷ outputs) (suc place) op version kind reply e = reply_among lane outputs place op version kind reply e
@@ -145,7 +145,7 @@ told_among history (Timeout by op) outputs lane seen own told =
     record { offset = told.offset; stands = subst P (sym (same_lane-same by lane own)) told.stands }
 told_among history event outputs lane seen own told = cc own
 
-pub told_seen : (history : History) (number : ℕ) (lane : LaneId) (op : OpId) (reply : Reply) → (told : IsToldAt history number lane op reply) → IsSeenTold (seen_of (history_before history number) told.entry.event told.entry.outputs) (reply_event (named lane op) reply)
+pub told_seen : (history : History) (number : ℕ) (lane : LaneId) (op : OpId) (reply : Reply) → (told : IsToldAt history number lane op reply) → IsSeenTold (seen_of (history_before history number) told.entry.event told.entry.outputs) (reply_event (named_request lane op) reply)
 told_seen history number lane op reply told =
-    told_among (history_before history number) told.entry.event told.entry.outputs lane (reply_event (named lane op) reply) told.own
+    told_among (history_before history number) told.entry.event told.entry.outputs lane (reply_event (named_request lane op) reply) told.own
     (reply_among lane told.entry.outputs told.place op told.version told.kind reply told.tells)

@@ -56,7 +56,7 @@ use Rattle.overlap_law.proofs.KeptLemmas.{holds-later, recent-before, recent_las
 use Rattle.overlap_law.proofs.SaidLemmas.{IsKnown, IsSaid, newly_known, read_asked, request-then, said_found, said_known, says, some_same}
 use Rattle.overlap_law.proofs.SeenLemmas.{reply_begins, seen_cases, stands_split}
 use Rattle.overlap_law.proofs.SettledLemmas.{late_refused, settled-later, settled_known}
-use Rattle.overlap_law.specs.ClientEvents.{begin_event, named, seen_in, seen_of}
+use Rattle.overlap_law.specs.ClientEvents.{begin_event, named_request, seen_in, seen_of}
 use Rattle.overlap_law.specs.Covered.{IsCovered, is_recent, view_at, view_in}
 use Rattle.stream_law.specs.Settled.{has_said, is_answer_of, is_settled}
 
@@ -94,8 +94,8 @@ abbrev pub GoodSet : Opening → History → Type 0
 GoodSet opening history =
     (begin acked : ℕ) (lane by : LaneId) (op number : OpId) (request wrote : Request) (table : TableId) (token : Token) (cell : Cell) →
     is_live history lane op ≡ true → request_at opening history lane op ≡ Some request → request.operation ≡ ReadOf table token →
-    Stands (seen_in history) begin (ReadBegun (named lane op) (key_of (ReadOf table token))) →
-    Stands (seen_in history) acked (WriteAcked (named by number)) → acked < begin →
+    Stands (seen_in history) begin (ReadBegun (named_request lane op) (key_of (ReadOf table token))) →
+    Stands (seen_in history) acked (WriteAcked (named_request by number)) → acked < begin →
     request_at opening history by number ≡ Some wrote → wrote.operation ≡ WriteOf table token cell →
     base_need (length request.targets) ≤ count_by (is_good opening history lane op request.version (key_of (ReadOf table token)) cell) request.targets
 
@@ -145,7 +145,7 @@ module _ (opening : Opening) (history : History) (event : Event) (valid : IsVali
   begins_good :
       (acked : ℕ) (lane by : LaneId) (op number : OpId) (request wrote : Request) (table : TableId) (token : Token) (cell : Cell) →
       request_at opening (entry_of opening history event ∷ history) lane op ≡ Some request → request.operation ≡ ReadOf table token →
-      Stands (seen_in history) acked (WriteAcked (named by number)) →
+      Stands (seen_in history) acked (WriteAcked (named_request by number)) →
       request_at opening (entry_of opening history event ∷ history) by number ≡ Some wrote → wrote.operation ≡ WriteOf table token cell →
       begun_count history lane < op.0 →
       base_need (length request.targets) ≤ count_by (is_good opening (entry_of opening history event ∷ history) lane op request.version (key_of (ReadOf table token)) cell) request.targets
@@ -265,13 +265,13 @@ good_set opening valid =
     legal_induction opening (GoodSet opening)
     (λ begin acked lane by op number request wrote table token cell live started is begins acks earlier done wrote_is. cc)
     (λ history event legal actor fit fine before begin acked lane by op number request wrote table token cell live started is begins acks earlier done wrote_is.
-    elim (stands_split (seen_in history) (seen_of history event (outputs_of opening history event)) begin (ReadBegun (named lane op) (key_of (ReadOf table token))) begins) [
+    elim (stands_split (seen_in history) (seen_of history event (outputs_of opening history event)) begin (ReadBegun (named_request lane op) (key_of (ReadOf table token))) begins) [
       | inl old ↦
-          let below : op.0 ≤ begun_count history lane = seen_begun opening history legal begin (ReadBegun (named lane op) (key_of (ReadOf table token))) (named lane op) old refl in
+          let below : op.0 ≤ begun_count history lane = seen_begun opening history legal begin (ReadBegun (named_request lane op) (key_of (ReadOf table token))) (named_request lane op) old refl in
           let started_then : request_at opening history lane op ≡ Some request = sym (request_at-kept opening history (entry_of opening history event) lane op below) ∙ started in
           let live_then = (live_before history (entry_of opening history event) lane op below live).live in
-          elim (stands_split (seen_in history) (seen_of history event (outputs_of opening history event)) acked (WriteAcked (named by number)) acks) [
-            | inr behind ↦ absurd (omega (arith, earlier, behind.place_is, slice_get_within (seen_in history) begin (ReadBegun (named lane op) (key_of (ReadOf table token))) old))
+          elim (stands_split (seen_in history) (seen_of history event (outputs_of opening history event)) acked (WriteAcked (named_request by number)) acks) [
+            | inr behind ↦ absurd (omega (arith, earlier, behind.place_is, slice_get_within (seen_in history) begin (ReadBegun (named_request lane op) (key_of (ReadOf table token))) old))
             | inl acked_then ↦
                 let settled : is_settled opening history by number ≡ true = acked_settled opening history legal acked by number acked_then in
                 let done_then : request_at opening history by number ≡ Some wrote = request-then opening history (entry_of opening history event) by number wrote (settled_known opening history by number settled) done in
@@ -283,13 +283,13 @@ good_set opening valid =
                 )
           ]
       | inr now ↦
-          elim (seen_cases opening history event now.offset (ReadBegun (named lane op) (key_of (ReadOf table token))) now.stands) [
-            | inr told ↦ let wrong : Some (named lane op) ≡ None = ap begun_by told.is ∙ reply_begins (named told.lane told.op) told.reply in cc wrong
+          elim (seen_cases opening history event now.offset (ReadBegun (named_request lane op) (key_of (ReadOf table token))) now.stands) [
+            | inr told ↦ let wrong : Some (named_request lane op) ≡ None = ap begun_by told.is ∙ reply_begins (named_request told.lane told.op) told.reply in cc wrong
             | inl began ↦
-                elim (stands_split (seen_in history) (seen_of history event (outputs_of opening history event)) acked (WriteAcked (named by number)) acks) [
+                elim (stands_split (seen_in history) (seen_of history event (outputs_of opening history event)) acked (WriteAcked (named_request by number)) acks) [
                   | inr behind ↦ absurd (omega (arith, earlier, behind.place_is, now.place_is, began.first))
                   | inl acked_then ↦
-                      let name : named lane op ≡ named began.lane (next_op history began.lane) = read_of (named began.lane (next_op history began.lane)) (named lane op) (key_of (ReadOf table token)) began.operation began.is in
+                      let name : named_request lane op ≡ named_request began.lane (next_op history began.lane) = read_of (named_request began.lane (next_op history began.lane)) (named_request lane op) (key_of (ReadOf table token)) began.operation began.is in
                       let P : Named → Type 0 = λ n. begun_count history n.lane < n.op.0 in
                       let above : begun_count history lane < op.0 = subst P (sym name) (omega arith) in
                       begins_good opening history event valid legal actor fit fine acked lane by op number request wrote table token cell started is acked_then done wrote_is above

@@ -19,7 +19,7 @@ use Rattle.overlap_law.proofs.PrefixLemmas.{legal_after, none_taken}
 use Rattle.overlap_law.proofs.JointLemmas.{cover}
 use Rattle.overlap_law.specs.Covered.{Cover}
 use Rattle.overlap_law.specs.Prefixes.{AfterEachPrefix, history_after}
-use Rattle.overlap_law.specs.ClientEvents.{client_events, named, seen_in, seen_of}
+use Rattle.overlap_law.specs.ClientEvents.{client_events, named_request, seen_in, seen_of}
 use Rattle.overlap_law.specs.Headline.{IsHeadline, IsReadBound, ReadsAreNotBelow}
 
 -- ---- the register run
@@ -34,14 +34,14 @@ refine journal (inr empty) =
 -- where what clients saw is a run, so it is by the entries
 pub not_below_of : (history : History) → IsRegisterRun (seen_in history) → ReadsAreNotBelow history
 not_below_of history run wrote acked begin number writer reader write read table token written cell writes acks earlier begins told =
-    let ack : IsSeenTold (seen_of (history_before history acked) acks.entry.event acks.entry.outputs) (WriteAcked (named writer write)) = told_seen history acked writer write Ok acks in
-    let returns : IsSeenTold (seen_of (history_before history number) told.entry.event told.entry.outputs) (ReadOk (named reader read) cell) = told_seen history number reader read (Read cell) told in
-    run.reads_not_below (length (seen_in (history_before history wrote)) + 0) (length (seen_in (history_before history acked)) + ack.offset) (length (seen_in (history_before history begin)) + 0) (length (seen_in (history_before history number)) + returns.offset) (named writer write) (named reader read) (key_of (ReadOf table token)) written cell
+    let ack : IsSeenTold (seen_of (history_before history acked) acks.entry.event acks.entry.outputs) (WriteAcked (named_request writer write)) = told_seen history acked writer write Ok acks in
+    let returns : IsSeenTold (seen_of (history_before history number) told.entry.event told.entry.outputs) (ReadOk (named_request reader read) cell) = told_seen history number reader read (Read cell) told in
+    run.reads_not_below (length (seen_in (history_before history wrote)) + 0) (length (seen_in (history_before history acked)) + ack.offset) (length (seen_in (history_before history begin)) + 0) (length (seen_in (history_before history number)) + returns.offset) (named_request writer write) (named_request reader read) (key_of (ReadOf table token)) written cell
     (begun_seen history wrote writer write (WriteOf table token written) writes)
-    (seen_at history acked acks.entry ack.offset (WriteAcked (named writer write)) acks.stands ack.stands)
-    (omega (arith, seen_before history acked begin acks.entry begins.entry acks.stands begins.stands earlier, slice_get_within (seen_of (history_before history acked) acks.entry.event acks.entry.outputs) ack.offset (WriteAcked (named writer write)) ack.stands))
+    (seen_at history acked acks.entry ack.offset (WriteAcked (named_request writer write)) acks.stands ack.stands)
+    (omega (arith, seen_before history acked begin acks.entry begins.entry acks.stands begins.stands earlier, slice_get_within (seen_of (history_before history acked) acks.entry.event acks.entry.outputs) ack.offset (WriteAcked (named_request writer write)) ack.stands))
     (begun_seen history begin reader read (ReadOf table token) begins)
-    (seen_at history number told.entry returns.offset (ReadOk (named reader read) cell) told.stands returns.stands)
+    (seen_at history number told.entry returns.offset (ReadOk (named_request reader read) cell) told.stands returns.stands)
 
 pub not_below_run : (journal : Journal) → IsLegalRun journal → ReadsAreNotBelow (history_of journal)
 not_below_run journal legal = not_below_of (history_of journal) (refine journal legal)

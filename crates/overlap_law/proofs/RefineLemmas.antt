@@ -58,7 +58,7 @@ use Rattle.overlap_law.proofs.GoodLemmas.{found_below, good_parts, good_set, is_
 use Rattle.overlap_law.proofs.SaidLemmas.{IsKnown, sent_said, some_same}
 use Rattle.overlap_law.proofs.SeenLemmas.{begin_begins, begin_ends, stands_at, stands_split}
 use Rattle.overlap_law.proofs.SettledLemmas.{settled_known}
-use Rattle.overlap_law.specs.ClientEvents.{begin_event, named, reply_event, reply_events, seen_in, seen_of}
+use Rattle.overlap_law.specs.ClientEvents.{begin_event, named_request, reply_event, reply_events, seen_in, seen_of}
 use Rattle.stream_law.specs.Settled.{has_said}
 
 -- ---- events that may come next
@@ -145,7 +145,7 @@ module _ (opening : Opening) (history : History) (valid : IsValidOpening opening
       (table : TableId) (token : Token) (cell : Cell) (wrote acked begin : ℕ) (writer : Named) → decides.request.operation ≡ ReadOf table token →
       decides.request.need ≤ answered_count (decides.answer ∷ answers_of history lane decides.answer.op) decides.request.targets →
       Stands (seen_in history) wrote (WriteBegun writer (key_of (ReadOf table token)) cell) → Stands (seen_in history) acked (WriteAcked writer) → acked < begin →
-      Stands (seen_in history) begin (ReadBegun (named lane decides.answer.op) (key_of (ReadOf table token))) →
+      Stands (seen_in history) begin (ReadBegun (named_request lane decides.answer.op) (key_of (ReadOf table token))) →
       IsNotBelow (greatest_told (decides.answer ∷ answers_of history lane decides.answer.op) decides.request.targets) (Some cell)
   read_bound table token cell wrote acked begin writer is enough writes acks before begins =
       let answers = decides.answer ∷ answers_of history lane decides.answer.op in
@@ -180,29 +180,29 @@ module _ (opening : Opening) (history : History) (valid : IsValidOpening opening
   may_read :
       (table : TableId) (token : Token) → decides.request.operation ≡ ReadOf table token →
       decides.request.need ≤ answered_count (decides.answer ∷ answers_of history lane decides.answer.op) decides.request.targets →
-      MayCome (seen_in history) (ReadOk (named lane decides.answer.op) (greatest_told (decides.answer ∷ answers_of history lane decides.answer.op) decides.request.targets))
+      MayCome (seen_in history) (ReadOk (named_request lane decides.answer.op) (greatest_told (decides.answer ∷ answers_of history lane decides.answer.op) decides.request.targets))
   may_read table token is enough =
       record {
         fresh = λ i other e begins. cc;
-        unended = λ i other e ends. let same : named lane decides.answer.op ≡ other = cc in let P : Named → Type 0 = λ n. EndsAt (seen_in history) i n in live_unended opening history legal i lane decides.answer.op decides.live (subst P (sym same) ends);
-        begun = record { at = began.at; key = key_of (ReadOf table token); earlier = slice_get_within (seen_in history) began.at (ReadBegun (named lane decides.answer.op) (key_of (ReadOf table token))) began.stands; stands = began.stands };
+        unended = λ i other e ends. let same : named_request lane decides.answer.op ≡ other = cc in let P : Named → Type 0 = λ n. EndsAt (seen_in history) i n in live_unended opening history legal i lane decides.answer.op decides.live (subst P (sym same) ends);
+        begun = record { at = began.at; key = key_of (ReadOf table token); earlier = slice_get_within (seen_in history) began.at (ReadBegun (named_request lane decides.answer.op) (key_of (ReadOf table token))) began.stands; stands = began.stands };
         written = λ begin reader key cell e begins. from_write begin reader key cell e begins;
         not_below = λ wrote acked begin writer reader key written cell e writes acks before begins. bound wrote acked begin writer reader key written cell e writes acks before begins;
       }
     where
-      began : Began (seen_in history) (named lane decides.answer.op) (ReadOf table token)
-      began = let P : Operation → Type 0 = λ o. Began (seen_in history) (named lane decides.answer.op) o in subst P is (request_seen opening history lane decides.answer.op decides.request decides.begun)
+      began : Began (seen_in history) (named_request lane decides.answer.op) (ReadOf table token)
+      began = let P : Operation → Type 0 = λ o. Began (seen_in history) (named_request lane decides.answer.op) o in subst P is (request_seen opening history lane decides.answer.op decides.request decides.begun)
 
-      same_key_at : (begin : ℕ) (key : Key) → Stands (seen_in history) begin (ReadBegun (named lane decides.answer.op) key) → key_of (ReadOf table token) ≡ key
+      same_key_at : (begin : ℕ) (key : Key) → Stands (seen_in history) begin (ReadBegun (named_request lane decides.answer.op) key) → key_of (ReadOf table token) ≡ key
       same_key_at begin key begins =
-          read_key_is (named lane decides.answer.op) table token key
-          (begun_as (seen_in history) (named lane decides.answer.op) (ReadOf table token) begin (ReadBegun (named lane decides.answer.op) key) run
-          (let P : Operation → Type 0 = λ o. Began (seen_in history) (named lane decides.answer.op) o in subst P is (request_seen opening history lane decides.answer.op decides.request decides.begun))
+          read_key_is (named_request lane decides.answer.op) table token key
+          (begun_as (seen_in history) (named_request lane decides.answer.op) (ReadOf table token) begin (ReadBegun (named_request lane decides.answer.op) key) run
+          (let P : Operation → Type 0 = λ o. Began (seen_in history) (named_request lane decides.answer.op) o in subst P is (request_seen opening history lane decides.answer.op decides.request decides.begun))
           begins refl)
 
-      from_write : (begin : ℕ) (reader : Named) (key : Key) (cell : Cell) → ReadOk (named lane decides.answer.op) (greatest_told (decides.answer ∷ answers_of history lane decides.answer.op) decides.request.targets) ≡ ReadOk reader (Some cell) → Stands (seen_in history) begin (ReadBegun reader key) → WrittenBefore (seen_in history) (length (seen_in history)) key cell
+      from_write : (begin : ℕ) (reader : Named) (key : Key) (cell : Cell) → ReadOk (named_request lane decides.answer.op) (greatest_told (decides.answer ∷ answers_of history lane decides.answer.op) decides.request.targets) ≡ ReadOk reader (Some cell) → Stands (seen_in history) begin (ReadBegun reader key) → WrittenBefore (seen_in history) (length (seen_in history)) key cell
       from_write begin reader key cell e begins =
-          let who : named lane decides.answer.op ≡ reader = cc in
+          let who : named_request lane decides.answer.op ≡ reader = cc in
           let what : greatest_told (decides.answer ∷ answers_of history lane decides.answer.op) decides.request.targets ≡ Some cell = cc in
           let P : Named → Type 0 = λ n. Stands (seen_in history) begin (ReadBegun n key) in
           let same : key_of (ReadOf table token) ≡ key = same_key_at begin key (subst P (sym who) begins) in
@@ -210,33 +210,33 @@ module _ (opening : Opening) (history : History) (valid : IsValidOpening opening
           let Q : Key → Type 0 = λ k. WrittenBefore (seen_in history) (length (seen_in history)) k cell in
           subst Q (ap key_of is ∙ same) (written_seen history (key_of decides.request.operation) cell written)
 
-      bound : (wrote acked begin : ℕ) (writer reader : Named) (key : Key) (written : Cell) (cell : Option Cell) → ReadOk (named lane decides.answer.op) (greatest_told (decides.answer ∷ answers_of history lane decides.answer.op) decides.request.targets) ≡ ReadOk reader cell → Stands (seen_in history) wrote (WriteBegun writer key written) → Stands (seen_in history) acked (WriteAcked writer) → acked < begin → Stands (seen_in history) begin (ReadBegun reader key) → IsNotBelow cell (Some written)
+      bound : (wrote acked begin : ℕ) (writer reader : Named) (key : Key) (written : Cell) (cell : Option Cell) → ReadOk (named_request lane decides.answer.op) (greatest_told (decides.answer ∷ answers_of history lane decides.answer.op) decides.request.targets) ≡ ReadOk reader cell → Stands (seen_in history) wrote (WriteBegun writer key written) → Stands (seen_in history) acked (WriteAcked writer) → acked < begin → Stands (seen_in history) begin (ReadBegun reader key) → IsNotBelow cell (Some written)
       bound wrote acked begin writer reader key written cell e writes acks before begins =
-          let who : named lane decides.answer.op ≡ reader = cc in
+          let who : named_request lane decides.answer.op ≡ reader = cc in
           let what : greatest_told (decides.answer ∷ answers_of history lane decides.answer.op) decides.request.targets ≡ cell = cc in
           let P : Named → Type 0 = λ n. Stands (seen_in history) begin (ReadBegun n key) in
-          let begins_now : Stands (seen_in history) begin (ReadBegun (named lane decides.answer.op) key) = subst P (sym who) begins in
+          let begins_now : Stands (seen_in history) begin (ReadBegun (named_request lane decides.answer.op) key) = subst P (sym who) begins in
           let same : key_of (ReadOf table token) ≡ key = same_key_at begin key begins_now in
-          let Q : Key → Type 0 = λ k. Stands (seen_in history) begin (ReadBegun (named lane decides.answer.op) k) in
+          let Q : Key → Type 0 = λ k. Stands (seen_in history) begin (ReadBegun (named_request lane decides.answer.op) k) in
           let R : Key → Type 0 = λ k. Stands (seen_in history) wrote (WriteBegun writer k written) in
           let S : Option Cell → Type 0 = λ c. IsNotBelow c (Some written) in
           subst S what (read_bound table token written wrote acked begin writer is enough (subst R (sym same) writes) acks before (subst Q (sym same) begins_now))
 
   -- what the client is told may come next
-  may_decide : MayCome (seen_in history) (reply_event (named lane decides.answer.op) reply)
+  may_decide : MayCome (seen_in history) (reply_event (named_request lane decides.answer.op) reply)
   may_decide =
       elim (decided (kind_of decides.request.operation) decides.request.targets decides.request.need decides.answer (answers_of history lane decides.answer.op) reply decides.decided) [
         | inr refusal ↦
-            let P : Reply → Type 0 = λ r. MayCome (seen_in history) (reply_event (named lane decides.answer.op) r) in
-            subst P (sym refusal.reply_is) (may_end (seen_in history) (named lane decides.answer.op) decides.request.operation (request_seen opening history lane decides.answer.op decides.request decides.begun)
+            let P : Reply → Type 0 = λ r. MayCome (seen_in history) (reply_event (named_request lane decides.answer.op) r) in
+            subst P (sym refusal.reply_is) (may_end (seen_in history) (named_request lane decides.answer.op) decides.request.operation (request_seen opening history lane decides.answer.op decides.request decides.begun)
             (λ i ends. live_unended opening history legal i lane decides.answer.op decides.live ends))
         | inl told ↦
-            let P : Reply → Type 0 = λ r. MayCome (seen_in history) (reply_event (named lane decides.answer.op) r) in
+            let P : Reply → Type 0 = λ r. MayCome (seen_in history) (reply_event (named_request lane decides.answer.op) r) in
             elim (operations decides.request.operation) [
               | inl write ↦
-                  let Q : Operation → Type 0 = λ o. Began (seen_in history) (named lane decides.answer.op) o in
+                  let Q : Operation → Type 0 = λ o. Began (seen_in history) (named_request lane decides.answer.op) o in
                   subst P (sym (told.reply_is ∙ ap (λ (o : Operation). good_reply (kind_of o) (greatest_told (decides.answer ∷ answers_of history lane decides.answer.op) decides.request.targets)) write.is))
-                  (may_ack (seen_in history) (named lane decides.answer.op) write.table write.token write.cell
+                  (may_ack (seen_in history) (named_request lane decides.answer.op) write.table write.token write.cell
                   (subst Q write.is (request_seen opening history lane decides.answer.op decides.request decides.begun))
                   (λ i ends. live_unended opening history legal i lane decides.answer.op decides.live ends))
               | inr read ↦
@@ -287,15 +287,15 @@ run_take opening history valid legal run lane at fine =
     let P : List Output → Type 0 = λ o. IsRegisterRun (seen_in history ++ reply_events lane o) in
     elim (take_cases opening history lane at fine) [
       | inl none ↦ subst P (sym none) (same_run history run)
-      | inr one ↦ subst P (sym one.outputs) (run-longer (seen_in history) (reply_event (named lane one.decides.answer.op) one.reply) run (may_decide opening history valid legal run lane at one.reply one.decides))
+      | inr one ↦ subst P (sym one.outputs) (run-longer (seen_in history) (reply_event (named_request lane one.decides.answer.op) one.reply) run (may_decide opening history valid legal run lane at one.reply one.decides))
     ]
 
 run_timeout : (opening : Opening) (history : History) → IsLegalHistory opening history → IsRegisterRun (seen_in history) → (lane : LaneId) (op : OpId) → (request : Option Request) → live_request opening history lane op ≡ request → IsRegisterRun (seen_in history ++ reply_events lane (timeout_outputs op request (answers_of history lane op)))
 run_timeout opening history legal run lane op None r = same_run history run
 run_timeout opening history legal run lane op (Some request) r =
     let live = live_is opening history lane op request r in
-    run-longer (seen_in history) (Ended (named lane op)) run
-    (may_end (seen_in history) (named lane op) request.operation (request_seen opening history lane op request live.1)
+    run-longer (seen_in history) (Ended (named_request lane op)) run
+    (may_end (seen_in history) (named_request lane op) request.operation (request_seen opening history lane op request live.1)
     (λ i ends. live_unended opening history legal i lane op live.0 ends))
 
 no_replies : (lane : LaneId) (op : OpId) (version : Version) (operation : Operation) (targets : List Replica) → reply_events lane (map (sent_ask lane op version operation) targets) ≡ []
@@ -303,50 +303,50 @@ no_replies lane op version operation [] = refl
 no_replies lane op version (WriteOf table token cell) (target ∷ targets) = no_replies lane op version (WriteOf table token cell) targets
 no_replies lane op version (ReadOf table token) (target ∷ targets) = no_replies lane op version (ReadOf table token) targets
 
-run_begin : (opening : Opening) (history : History) → IsLegalHistory opening history → IsRegisterRun (seen_in history) → (lane : LaneId) (operation : Operation) (version : Version) (way : Way) → way_of opening history lane operation version ≡ way → IsRegisterRun (seen_in history ++ begin_event (named lane (next_op history lane)) operation ∷ reply_events lane (begin_outputs lane (next_op history lane) version operation way))
+run_begin : (opening : Opening) (history : History) → IsLegalHistory opening history → IsRegisterRun (seen_in history) → (lane : LaneId) (operation : Operation) (version : Version) (way : Way) → way_of opening history lane operation version ≡ way → IsRegisterRun (seen_in history ++ begin_event (named_request lane (next_op history lane)) operation ∷ reply_events lane (begin_outputs lane (next_op history lane) version operation way))
 run_begin opening history legal run lane operation version way is = by_way way is
   where
-    begun_run : IsRegisterRun (seen_in history ++ begin_event (named lane (next_op history lane)) operation ∷ [])
-    begun_run = run-longer (seen_in history) (begin_event (named lane (next_op history lane)) operation) run
-        (may_begin (seen_in history) (named lane (next_op history lane)) operation
-        (λ i begins. absurd (omega (arith, seen_begun opening history legal i begins.event (named lane (next_op history lane)) begins.stands begins.begins))))
+    begun_run : IsRegisterRun (seen_in history ++ begin_event (named_request lane (next_op history lane)) operation ∷ [])
+    begun_run = run-longer (seen_in history) (begin_event (named_request lane (next_op history lane)) operation) run
+        (may_begin (seen_in history) (named_request lane (next_op history lane)) operation
+        (λ i begins. absurd (omega (arith, seen_begun opening history legal i begins.event (named_request lane (next_op history lane)) begins.stands begins.begins))))
 
-    unended : (i : ℕ) → EndsAt (seen_in history ++ begin_event (named lane (next_op history lane)) operation ∷ []) i (named lane (next_op history lane)) → ⊥
+    unended : (i : ℕ) → EndsAt (seen_in history ++ begin_event (named_request lane (next_op history lane)) operation ∷ []) i (named_request lane (next_op history lane)) → ⊥
     unended i ends =
-        elim (stands_split (seen_in history) (begin_event (named lane (next_op history lane)) operation ∷ []) i ends.event ends.stands) [
+        elim (stands_split (seen_in history) (begin_event (named_request lane (next_op history lane)) operation ∷ []) i ends.event ends.stands) [
           | inl old ↦
-              let was : EndsAt (seen_in history) i (named lane (next_op history lane)) = record { event = ends.event; stands = old; ends = ends.ends } in
-              absurd (omega (arith, seen_ended opening history legal i (named lane (next_op history lane)) was))
+              let was : EndsAt (seen_in history) i (named_request lane (next_op history lane)) = record { event = ends.event; stands = old; ends = ends.ends } in
+              absurd (omega (arith, seen_ended opening history legal i (named_request lane (next_op history lane)) was))
           | inr behind ↦ last behind.offset behind.stands
         ]
       where
-        last : (offset : ℕ) → slice_get (begin_event (named lane (next_op history lane)) operation ∷ []) offset ≡ Some ends.event → ⊥
+        last : (offset : ℕ) → slice_get (begin_event (named_request lane (next_op history lane)) operation ∷ []) offset ≡ Some ends.event → ⊥
         last zero e =
-            let same : begin_event (named lane (next_op history lane)) operation ≡ ends.event = some_same (begin_event (named lane (next_op history lane)) operation) ends.event e in
-            let wrong : Some (named lane (next_op history lane)) ≡ None = sym ends.ends ∙ ap ended_by (sym same) ∙ begin_ends (named lane (next_op history lane)) operation in cc wrong
+            let same : begin_event (named_request lane (next_op history lane)) operation ≡ ends.event = some_same (begin_event (named_request lane (next_op history lane)) operation) ends.event e in
+            let wrong : Some (named_request lane (next_op history lane)) ≡ None = sym ends.ends ∙ ap ended_by (sym same) ∙ begin_ends (named_request lane (next_op history lane)) operation in cc wrong
         last (suc offset) e = cc
 
-    ended_run : IsRegisterRun (seen_in history ++ begin_event (named lane (next_op history lane)) operation ∷ Ended (named lane (next_op history lane)) ∷ [])
+    ended_run : IsRegisterRun (seen_in history ++ begin_event (named_request lane (next_op history lane)) operation ∷ Ended (named_request lane (next_op history lane)) ∷ [])
     ended_run =
         let P : List ClientEvent → Type 0 = λ l. IsRegisterRun l in
-        subst P (append_assoc (seen_in history) (begin_event (named lane (next_op history lane)) operation ∷ []) (Ended (named lane (next_op history lane)) ∷ []))
-        (run-longer (seen_in history ++ begin_event (named lane (next_op history lane)) operation ∷ []) (Ended (named lane (next_op history lane))) begun_run
-        (may_end (seen_in history ++ begin_event (named lane (next_op history lane)) operation ∷ []) (named lane (next_op history lane)) operation
-        (record { at = length (seen_in history); stands = stands_at (seen_in history) [] (begin_event (named lane (next_op history lane)) operation) })
+        subst P (append_assoc (seen_in history) (begin_event (named_request lane (next_op history lane)) operation ∷ []) (Ended (named_request lane (next_op history lane)) ∷ []))
+        (run-longer (seen_in history ++ begin_event (named_request lane (next_op history lane)) operation ∷ []) (Ended (named_request lane (next_op history lane))) begun_run
+        (may_end (seen_in history ++ begin_event (named_request lane (next_op history lane)) operation ∷ []) (named_request lane (next_op history lane)) operation
+        (record { at = length (seen_in history); stands = stands_at (seen_in history) [] (begin_event (named_request lane (next_op history lane)) operation) })
         unended))
 
-    by_way : (way : Way) → way_of opening history lane operation version ≡ way → IsRegisterRun (seen_in history ++ begin_event (named lane (next_op history lane)) operation ∷ reply_events lane (begin_outputs lane (next_op history lane) version operation way))
+    by_way : (way : Way) → way_of opening history lane operation version ≡ way → IsRegisterRun (seen_in history ++ begin_event (named_request lane (next_op history lane)) operation ∷ reply_events lane (begin_outputs lane (next_op history lane) version operation way))
     by_way (Goes to) r =
-        let P : List ClientEvent → Type 0 = λ l. IsRegisterRun (seen_in history ++ begin_event (named lane (next_op history lane)) operation ∷ l) in
+        let P : List ClientEvent → Type 0 = λ l. IsRegisterRun (seen_in history ++ begin_event (named_request lane (next_op history lane)) operation ∷ l) in
         subst P (sym (no_replies lane (next_op history lane) version operation to.targets)) begun_run
     by_way (Ends reply) r = away reply (turned_away opening history lane operation version reply r)
       where
-        away : (reply : Reply) → IsTurnedAway reply → IsRegisterRun (seen_in history ++ begin_event (named lane (next_op history lane)) operation ∷ reply_event (named lane (next_op history lane)) reply ∷ [])
+        away : (reply : Reply) → IsTurnedAway reply → IsRegisterRun (seen_in history ++ begin_event (named_request lane (next_op history lane)) operation ∷ reply_event (named_request lane (next_op history lane)) reply ∷ [])
         away reply (HasNoTable told) =
-            let P : Reply → Type 0 = λ r. IsRegisterRun (seen_in history ++ begin_event (named lane (next_op history lane)) operation ∷ reply_event (named lane (next_op history lane)) r ∷ []) in
+            let P : Reply → Type 0 = λ r. IsRegisterRun (seen_in history ++ begin_event (named_request lane (next_op history lane)) operation ∷ reply_event (named_request lane (next_op history lane)) r ∷ []) in
             subst P (sym told) ended_run
         away reply (IsNoMember told) =
-            let P : Reply → Type 0 = λ r. IsRegisterRun (seen_in history ++ begin_event (named lane (next_op history lane)) operation ∷ reply_event (named lane (next_op history lane)) r ∷ []) in
+            let P : Reply → Type 0 = λ r. IsRegisterRun (seen_in history ++ begin_event (named_request lane (next_op history lane)) operation ∷ reply_event (named_request lane (next_op history lane)) r ∷ []) in
             subst P (sym told) ended_run
 
 run_next : (opening : Opening) (history : History) (event : Event) → IsValidOpening opening → IsLegalHistory opening history → broken_rule opening history event ≡ None → IsRegisterRun (seen_in history) → IsRegisterRun (seen_in history ++ seen_of history event (outputs_of opening history event))

@@ -21,7 +21,7 @@ use Rattle.register_model.specs.Register.{begun_by, ended_by}
 use Rattle.register_model.specs.declared.data.ClientEvent.{ClientEvent}
 use Rattle.register_model.specs.declared.data.Request.{Request as Named}
 use Rattle.stage_graph.specs.declared.kind.Kind.{Kind}
-use Rattle.overlap_law.specs.ClientEvents.{begin_event, named, reply_event, reply_events, seen_of}
+use Rattle.overlap_law.specs.ClientEvents.{begin_event, named_request, reply_event, reply_events, seen_of}
 
 -- ---- places in a list that goes on
 
@@ -53,7 +53,7 @@ pub record IsReply (lane : LaneId) (outputs : List Output) (seen : ClientEvent) 
   pub reply : Reply
   pub place : ℕ
   pub stands : slice_get outputs place ≡ Some (Replied op version kind reply)
-  pub is : seen ≡ reply_event (named lane op) reply
+  pub is : seen ≡ reply_event (named_request lane op) reply
 
 reply_behind : (lane : LaneId) (output : Output) (outputs : List Output) (seen : ClientEvent) → IsReply lane outputs seen → IsReply lane (output ∷ outputs) seen
 reply_behind lane output outputs seen rest =
@@ -102,7 +102,7 @@ pub record IsBegun (history : History) (event : Event) (offset : ℕ) (seen : Cl
   pub version : Version
   pub event_is : event ≡ Begin lane operation version
   pub first : offset ≡ 0
-  pub is : seen ≡ begin_event (named lane (next_op history lane)) operation
+  pub is : seen ≡ begin_event (named_request lane (next_op history lane)) operation
 
 -- or the client of a request of the event's lane is told a reply
 pub record IsTold (opening : Opening) (history : History) (event : Event) (seen : ClientEvent) : Type 0 where
@@ -114,7 +114,7 @@ pub record IsTold (opening : Opening) (history : History) (event : Event) (seen 
   pub reply : Reply
   pub place : ℕ
   pub stands : slice_get (outputs_of opening history event) place ≡ Some (Replied op version kind reply)
-  pub is : seen ≡ reply_event (named lane op) reply
+  pub is : seen ≡ reply_event (named_request lane op) reply
 
 told : (opening : Opening) (history : History) (event : Event) (lane : LaneId) (seen : ClientEvent) → is_event_of lane event ≡ true → IsReply lane (outputs_of opening history event) seen → IsTold opening history event seen
 told opening history event lane seen own reply =

@@ -19,8 +19,9 @@ use Rattle.cluster_history.specs.declared.data.Operation.TheVariants.{Write as W
 use Rattle.cluster_history.specs.declared.data.Output.{Output}
 use Rattle.cluster_history.specs.declared.data.Output.TheVariants.{Reply as Replied}
 
-abbrev pub named : LaneId → OpId → Request
-named lane op = record { lane = lane; op = op }
+-- the request of this lane and this number, as clients name it
+abbrev pub named_request : LaneId → OpId → Request
+named_request lane op = record { lane = lane; op = op }
 
 -- a request begins
 abbrev pub begin_event : Request → Operation → ClientEvent
@@ -40,13 +41,13 @@ reply_event request NotMember = Ended request
 abbrev pub reply_events : LaneId → List Output → List ClientEvent
 reply_events lane [] = []
 reply_events lane (Replied op version kind reply ∷ outputs) =
-    reply_event (named lane op) reply ∷ reply_events lane outputs
+    reply_event (named_request lane op) reply ∷ reply_events lane outputs
 reply_events lane (output ∷ outputs) = reply_events lane outputs
 
 -- what clients see of an event with its outputs: nothing of the events of hosts and coordinators, nor of restarts
 abbrev pub seen_of : History → Event → List Output → List ClientEvent
 seen_of history (Begin lane operation version) outputs =
-    begin_event (named lane (next_op history lane)) operation ∷ reply_events lane outputs
+    begin_event (named_request lane (next_op history lane)) operation ∷ reply_events lane outputs
 seen_of history (Take lane at) outputs = reply_events lane outputs
 seen_of history (Timeout lane op) outputs = reply_events lane outputs
 seen_of history event outputs = []

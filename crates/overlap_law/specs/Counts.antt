@@ -11,7 +11,7 @@ use Rattle.cluster_history.specs.declared.data.Entry.{Entry}
 use Rattle.cluster_history.specs.declared.data.Operation.{Operation}
 use Rattle.register_model.specs.Known.{lane_order}
 use Rattle.register_model.specs.declared.data.ClientEvent.{ClientEvent}
-use Rattle.overlap_law.specs.ClientEvents.{begin_event, named, seen_of}
+use Rattle.overlap_law.specs.ClientEvents.{begin_event, named_request, seen_of}
 
 abbrev pub is_at_lane : LaneId → LaneId → Bool
 is_at_lane lane other = is_eq (lane_order lane other)
@@ -34,7 +34,7 @@ next_number counts lane = record { 0 = count_at counts lane + 1 }
 
 -- what clients see of its begin
 abbrev pub next_begin : List (LaneId × ℕ) → LaneId → Operation → ClientEvent
-next_begin counts lane operation = begin_event (named lane (next_number counts lane)) operation
+next_begin counts lane operation = begin_event (named_request lane (next_number counts lane)) operation
 
 -- the lane has begun one request more, and the others none
 abbrev pub IsCounted : List (LaneId × ℕ) → List (LaneId × ℕ) → LaneId → Type 0

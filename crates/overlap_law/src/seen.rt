@@ -3,7 +3,7 @@ ghost use Rattle.std.specs.Prelude.{◌≡◌, ◌+◌, ◌<◌, ◌^◌, ◌++�
 ghost use Rattle.base_ids.specs.declared.ids.LaneId.{LaneId};
 ghost use Rattle.base_ids.specs.Names.{same_lane};
 ghost use Rattle.cluster_history.specs.History.{History};
-ghost use Rattle.overlap_law.specs.ClientEvents.{named, begin_event, reply_event, reply_events, seen_of, client_events};
+ghost use Rattle.overlap_law.specs.ClientEvents.{named_request, begin_event, reply_event, reply_events, seen_of, client_events};
 ghost use Rattle.overlap_law.specs.Counts.{count_at, next_begin, next_number, IsCounted, IsCountedEntry, IsSeenOf};
 
 use base_ids::{Items, LaneId, NoMemory, OpId};
@@ -169,7 +169,8 @@ fn add_entry(entry: &Entry, counts: &mut Counts, seen: &mut ClientEventList) -> 
     }
 }
 
-/// What clients saw of the journal, in order: each request that began, and what clients were told.
+/// What clients saw of the journal, in order: each request that began, and what clients were told. `NoMemory` comes
+/// where memory for that is refused.
 pub fn client_events(alloc: Global, journal: &Journal) -> Result<ClientEventList, NoMemory>
     ensures { IfOk result (λ events. events ≡ client_events journal.now) }
 {

@@ -102,59 +102,49 @@ fn no_cluster(alloc: Global) -> Opening
     }
 }
 
-#[test]
-fn clients_see_begins_and_replies(rt: HostRuntime) -> Result<(), Fail> {
-    let alloc = rt.alloc();
-    let token = Token::new(5).ok_or("a token")?;
+/// The first lane of host 0 writes and then reads, and that of host 1 reads a table that is not there and restarts. A
+/// take in between tells clients nothing.
+fn journal(alloc: Global, token: Token) -> Result<Journal, NoMemory> {
     let table = TableId(7);
-    let mut entries = Items::new(alloc);
     let write = Operation::Write {
         table,
         token,
         cell: cell(),
     };
+    let other = Operation::Read { table, token };
+    let read = Operation::Read { table, token };
+    let no_table = Some((1, Kind::Read, Reply::NoTable));
+    let written = Some((1, Kind::Write, Reply::Ok));
+    let found = Some((2, Kind::Read, Reply::Read(Some(cell()))));
+    let mut entries = Items::new(alloc);
     add(alloc, &mut entries, begin(0, write), None)?;
-    let read = Operation::Read { table, token };
-    add(
-        alloc,
-        &mut entries,
-        begin(1, read),
-        Some((1, Kind::Read, Reply::NoTable)),
-    )?;
-    add(
-        alloc,
-        &mut entries,
-        take(0),
-        Some((1, Kind::Write, Reply::Ok)),
-    )?;
-    let read = Operation::Read { table, token };
+    add(alloc, &mut entries, begin(1, other), no_table)?;
+    add(alloc, &mut entries, take(0), written)?;
     add(alloc, &mut entries, begin(0, read), None)?;
     add(alloc, &mut entries, take(0), None)?;
     add(alloc, &mut entries, restart(1), None)?;
-    add(
-        alloc,
-        &mut entries,
-        take(0),
-        Some((2, Kind::Read, Reply::Read(Some(cell())))),
-    )?;
-    let journal = Journal {
+    add(alloc, &mut entries, take(0), found)?;
+    Ok(Journal {
         opening: no_cluster(alloc),
         entries,
-    };
-    let first = Request {
-        lane: lane(0),
-        op: OpId(1),
-    };
-    let second = Request {
-        lane: lane(0),
-        op: OpId(2),
-    };
-    let other = Request {
-        lane: lane(1),
-        op: OpId(1),
-    };
+    })
+}
+
+/// The request of this number of the first lane of the host.
+fn request(host: u16, op: u64) -> Request {
+    Request {
+        lane: lane(host),
+        op: OpId(op),
+    }
+}
+
+/// What clients see of it.
+fn wanted(token: Token) -> [ClientEvent; 6] {
     let key = key(token);
-    let wanted = [
+    let first = request(0, 1);
+    let second = request(0, 2);
+    let other = request(1, 1);
+    [
         ClientEvent::WriteBegun {
             request: first,
             key,
@@ -174,9 +164,15 @@ fn clients_see_begins_and_replies(rt: HostRuntime) -> Result<(), Fail> {
             request: second,
             cell: Some(cell()),
         },
-    ];
-    let seen = client_events(alloc, &journal)?;
-    assert_eq!(rt; seen.as_slice(), wanted.as_slice());
+    ]
+}
+
+#[test]
+fn clients_see_begins_and_replies(rt: HostRuntime) -> Result<(), Fail> {
+    let token = Token::new(5).ok_or("a token")?;
+    let journal = journal(rt.alloc(), token)?;
+    let seen = client_events(rt.alloc(), &journal)?;
+    assert_eq!(rt; seen.as_slice(), wanted(token).as_slice());
     Ok(())
 }
 

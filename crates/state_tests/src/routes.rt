@@ -1,6 +1,3 @@
-ghost use Rattle.std.specs.Prelude.{◌≤◌, IsTrue};
-ghost use Rattle.topo_state.specs.Rules.{IsFit};
-
 use base_ids::{HostId, Items, NoMemory, Replica, ReplicaList, Session, ShardId, TableId};
 use meta_snap::Snapshot;
 use stage_graph::Stage;
@@ -23,22 +20,6 @@ fn opening(alloc: Global) -> Result<TopoState, NoMemory> {
     TopoState::new(alloc, 4, 1, Items::from_vec(members), Items::new(alloc))
 }
 
-fn is_fit(command: &Command) -> bool
-    ensures { IsTrue result → IsFit command.now }
-{
-    match command {
-        Command::CreateTable {
-            log2,
-            replicas,
-            table: _,
-        } => {
-            let count = replicas.as_slice().len();
-            *log2 <= 10 && count >= 1 && count <= 8
-        }
-        _ => true,
-    }
-}
-
 /// Applies a command as the entry of this index.
 fn apply(
     rt: &impl Abort,
@@ -47,7 +28,7 @@ fn apply(
     command: &Command,
     index: u64,
 ) -> Result<(), NoMemory> {
-    let fit = is_fit(command);
+    let fit = command.is_fit();
     assert!(rt; fit);
     assert!(rt; state.version().0 < u64::MAX);
     assert!(rt; state.judge(command).is_ok());

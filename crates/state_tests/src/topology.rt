@@ -1,5 +1,4 @@
-ghost use Rattle.std.specs.Prelude.{◌≤◌, IsTrue, length};
-ghost use Rattle.topo_state.specs.Rules.{IsFit};
+ghost use Rattle.std.specs.Prelude.{◌≤◌, length};
 
 use base_ids::{HostId, Items, NoMemory, Replica, ReplicaList, Session, ShardId, TableId, Version};
 use stage_graph::Stage;
@@ -24,22 +23,6 @@ fn opening(alloc: Global) -> Result<TopoState, NoMemory> {
     TopoState::new(alloc, 4, 2, Items::from_vec(members), Items::new(alloc))
 }
 
-fn is_fit(command: &Command) -> bool
-    ensures { IsTrue result → IsFit command.now }
-{
-    match command {
-        Command::CreateTable {
-            log2,
-            replicas,
-            table: _,
-        } => {
-            let count = replicas.as_slice().len();
-            *log2 <= 10 && count >= 1 && count <= 8
-        }
-        _ => true,
-    }
-}
-
 /// Proposes the commands one after another, each as the entry of its number in the list. The number of the first one
 /// that is judged otherwise.
 fn first_other(
@@ -48,7 +31,7 @@ fn first_other(
     cases: &[Case],
 ) -> Result<Option<usize>, NoMemory> {
     for (place, case) in cases.iter().enumerate() {
-        if !is_fit(&case.0) || state.version().0 == u64::MAX {
+        if !case.0.is_fit() || state.version().0 == u64::MAX {
             return Ok(Some(place + 1));
         }
         let verdict = state.judge(&case.0);
