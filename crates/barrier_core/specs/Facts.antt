@@ -11,6 +11,7 @@ use Rattle.barrier_core.specs.declared.data.Told.{Told}
 use Rattle.barrier_core.specs.declared.data.Mode.{Mode}
 use Rattle.barrier_core.specs.declared.data.Mode.TheVariants.{Drained, Fenced}
 
+-- the same kind of fact, of the same version or session
 abbrev pub same_what : What → What → Bool
 same_what (Drain a) (Drain b) = a.0 == b.0
 same_what (FenceAt a) (FenceAt b) = a.0 == b.0
@@ -19,6 +20,7 @@ same_what (CleanOf a) (CleanOf b) = same_session a b
 same_what (Ready a) (Ready b) = same_session a b
 same_what a b = false
 
+-- the same fact, told by the same host
 abbrev pub same_told : Told → Told → Bool
 same_told a b = same_host a.from b.from && same_what a.what b.what
 

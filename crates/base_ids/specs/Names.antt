@@ -1,4 +1,4 @@
--- When two names are the same.
+-- When two names are the same: when their numbers are equal.
 use Rattle.std.specs.Prelude.{Bool, false, ◌==◌, ◌&&◌}
 use Rattle.base_ids.specs.declared.ids.HostId.{HostId}
 use Rattle.base_ids.specs.declared.ids.LaneId.{LaneId}
@@ -12,9 +12,11 @@ use Rattle.base_ids.specs.declared.ids.Version.{Version}
 abbrev pub same_host : HostId → HostId → Bool
 same_host a b = a.0 == b.0
 
+-- the same lane of the same host
 abbrev pub same_lane : LaneId → LaneId → Bool
 same_lane a b = same_host a.host b.host && (a.lane == b.lane)
 
+-- the same lane, host or coordinator; two of different kinds are never the same, even on one host
 abbrev pub same_actor : Actor → Actor → Bool
 same_actor (ByLane a) (ByLane b) = same_lane a b
 same_actor (ByHost a) (ByHost b) = same_host a b

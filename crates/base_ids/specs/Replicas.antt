@@ -8,6 +8,7 @@ use Rattle.base_ids.specs.declared.ids.Replica.{Replica}
 abbrev pub same_replica : Replica → Replica → Bool
 same_replica a b = (a.host.0 == b.host.0) && (a.shard.0 == b.shard.0)
 
+-- the replica is on the host
 abbrev pub is_on : HostId → Replica → Bool
 is_on host replica = host.0 == replica.host.0
 

@@ -42,7 +42,7 @@ pub struct StateId(pub u64);
 #[derive(Clone, Copy, Debug, PartialEq, Eq, PartialOrd, Ord, Hash)]
 pub struct Session(pub u64);
 
-/// The number of an operation of a lane, from 1 in the order of their begins.
+/// The number of a request of a lane, from 1 in the order of their begins.
 #[derive(Clone, Copy, Debug, PartialEq, Eq, PartialOrd, Ord, Hash)]
 pub struct OpId(pub u64);
 

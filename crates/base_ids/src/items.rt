@@ -83,7 +83,7 @@ impl<T: Drop> Items<T> {
 }
 
 impl<T: Copy> Items<T> {
-    /// An equal list.
+    /// An equal list. `NoMemory` comes where memory for it is refused.
     pub fn clone_in(&self, alloc: Global) -> Result<Items<T>, NoMemory>
         ensures { IfOk result (λ list. list ≡ self.now) }
     {

@@ -33,7 +33,7 @@ impl ReplicaList {
         }
     }
 
-    /// The list of these replicas, in their order.
+    /// The list of these replicas, in their order. `NoMemory` comes where memory for it is refused.
     pub fn new(alloc: Global, items: &[Replica]) -> Result<ReplicaList, NoMemory>
         requires { length items.now ≤ 9 }
         ensures { IfOk result (λ list. list ≡ items.now) }
@@ -50,7 +50,7 @@ impl ReplicaList {
         self.items.as_slice()
     }
 
-    /// An equal list.
+    /// An equal list. `NoMemory` comes where memory for it is refused.
     pub fn clone_in(&self, alloc: Global) -> Result<ReplicaList, NoMemory>
         ensures { IfOk result (λ list. list ≡ self.now) }
     {

@@ -4,30 +4,30 @@ ghost use Rattle.base_ids.specs.Rules.{event_rule_word, limit_word};
 
 use crate::ids::StateId;
 
-/// The rule that an event breaks. The rules of an event are looked at in a fixed order.
+/// Why an event may not come next: the first of its rules that it breaks, in an order that is fixed.
 #[derive(Clone, Copy, Debug, PartialEq, Eq)]
 pub enum EventRule {
-    /// The version of a begin is below the floor of the lane's host.
+    /// A begin has a version that is less than its host's floor.
     BelowFloor,
-    /// The version of a begin is above the version of the lane's host.
+    /// A begin has a version that its host has not reached.
     AboveVersion,
     /// The lane of a begin has 8 live requests.
     LaneFull,
     /// The journal has no such entry, or the entry no such output.
     NoMessage,
-    /// The output is not of a kind that the event takes, or is addressed to another actor.
+    /// The event takes no such output, or the message was sent to someone else.
     WrongMessage,
     /// The lane of a timeout has no such live request.
     NoRequest,
-    /// The host has applied the whole log.
+    /// No command of the log is left for the host to apply.
     NothingToApply,
     /// The version of a quiet event is above that of the host.
     VersionAhead,
-    /// A lane of the host has a live request below the version of a quiet event.
+    /// A request below the version of a quiet event is live on one of the host's lanes.
     LiveBelow,
     /// What a topo asks of a host does not hold there.
     NotTrue,
-    /// The host's applied state has no such session that streams to this host.
+    /// As far as the host has applied the log, the session streams nothing to it.
     NoStream,
     /// The pull of the session is done.
     PullOver,
@@ -82,7 +82,7 @@ pub enum LimitName {
     Tables,
     /// At most 2^10 tablets in a table, wherever their logarithm is read.
     Log2,
-    /// At most 1024 tablets in all tables of the header.
+    /// At most 1024 tablets in the header, over its tables together.
     Tablets,
     /// At most 8 replicas in one list.
     Replicas,

@@ -31,7 +31,7 @@ impl Bytes64 {
     /// The most bytes that a value has.
     pub const MAX: usize = 64;
 
-    /// These bytes; `None` exactly where there are more than 64.
+    /// The value of these bytes; `None` for more than 64 of them, and only then.
     pub fn new(bytes: &[u8]) -> Option<Bytes64>
         ensures fits { IsSome result ↔ (length bytes.now ≤ 64) }
         ensures kept { IfSome result (λ value. value ≡ bytes.now) }

@@ -27,8 +27,8 @@ pub enum Body {
 }
 
 impl Cell {
-    /// ScyllaDB's cell order without expiry times. The greater timestamp is greater; at a tie a dead cell is
-    /// above a live one; two live cells go by their bytes, two dead ones by their time of deletion.
+    /// ScyllaDB's order of cells, but for expiry: by timestamp first; then deletions above values; values by their
+    /// bytes, deletions by their time.
     pub fn compare(a: &Cell, b: &Cell) -> Ordering
         ensures { result ≡ cell_order a.now b.now }
     {
@@ -42,7 +42,7 @@ impl Cell {
     }
 }
 
-/// The greater one of the two, and `a` where they are equal. `None` is below every cell.
+/// The greater one of two cells. Where neither is greater it is `a`; a missing cell is least.
 pub fn merge<'a>(a: Option<&'a Cell>, b: Option<&'a Cell>) -> Option<&'a Cell>
     ensures { option_copied result ≡ greater_cell (option_copied a.entry) (option_copied b.entry) }
 {

@@ -25,10 +25,11 @@ abbrev pub key_of : Operation → Key
 key_of (WriteOf table token cell) = record { table = table; token = token }
 key_of (ReadOf table token) = record { table = table; token = token }
 
--- the key that an ask writes or reads
+-- the key at which a write ask stores its cell
 abbrev pub written_key : WriteAsk → Key
 written_key ask = record { table = ask.table; token = ask.token }
 
+-- the key whose cell a read ask is to be told
 abbrev pub read_key : ReadAsk → Key
 read_key ask = record { table = ask.table; token = ask.token }
 
@@ -39,8 +40,8 @@ is_clean what = false
 
 -- ---- who takes which message
 
--- who may take the message: asks go to the host of their replica, answers to their lane, what hosts ask and send one
--- another to the host that is named, and so do the asks of coordinators; facts go to the coordinator that asked
+-- who alone may take the message: the host whose replica an ask names, the lane that asked, the host that pulls or is
+-- pulled from, the host that a coordinator asks, or the coordinator that asked
 abbrev pub addressee : Message → Actor
 addressee (WriteSent ask) = ByHost ask.to.host
 addressee (ReadSent ask) = ByHost ask.to.host
@@ -72,11 +73,12 @@ abbrev pub is_chunk : Message → Bool
 is_chunk (ChunkSent chunk) = true
 is_chunk message = false
 
--- what a host answers, and what it is asked to clean
+-- what a host answers: each ask of a coordinator but those to clean
 abbrev pub is_question : Message → Bool
 is_question (AskSent ask) = not (is_clean ask.what)
 is_question message = false
 
+-- what a host cleans by: an ask of a coordinator to clean
 abbrev pub is_clean_ask : Message → Bool
 is_clean_ask (AskSent ask) = is_clean ask.what
 is_clean_ask message = false

@@ -40,6 +40,7 @@ ask_of lane op version (WriteOf table token cell) to =
 ask_of lane op version (ReadOf table token) to =
     ReadSent (record { lane = lane; op = op; version = version; table = table; token = token; to = to })
 
+-- that ask, as an output
 abbrev pub sent_ask : LaneId → OpId → Version → Operation → Replica → Output
 sent_ask lane op version operation to = Sent (ask_of lane op version operation to)
 
@@ -77,6 +78,7 @@ timeout_outputs op (Some request) answers =
 abbrev pub said_to : Version → Version → Said → Said
 said_to version fence said = if nat_lt version.0 fence.0 then Refused fence else said
 
+-- the answer of a replica to a request, as an output: it goes to the lane of the request
 abbrev pub answer_of : LaneId → OpId → Replica → Said → Output
 answer_of lane op from said = Sent (AnswerSent (record { lane = lane; op = op; from = from; said = said }))
 
@@ -99,10 +101,12 @@ abbrev pub answer_outputs : Option Message → List Output
 answer_outputs (Some (AskSent ask)) = fact_for ask ∷ []
 answer_outputs message = []
 
+-- an asked cleanup: the fact that it is done where the session cleans this host, else that it is not this host's
 abbrev pub clean_output : (Session → Bool) → Ask → Session → Output
 clean_output is_mine ask session =
     if is_mine session then fact_for ask else Sent (NotMine ask.to ask.by session)
 
+-- that for the session of the ask, where it asks for a cleanup
 abbrev pub cleaned_outputs : (Session → Bool) → Ask → Option Session → List Output
 cleaned_outputs is_mine ask None = []
 cleaned_outputs is_mine ask (Some session) = clean_output is_mine ask session ∷ []
@@ -130,6 +134,7 @@ chunk_outputs pull_at message = []
 
 -- ---- coordinators
 
+-- an ask: one message from the coordinator to the host
 abbrev pub ask_outputs : HostId → HostId → What → List Output
 ask_outputs topo host what = Sent (AskSent (record { by = topo; to = host; what = what })) ∷ []
 

@@ -44,6 +44,7 @@ pub data Way : Type 0 where
   Goes : Route → Way
   Ends : Reply → Way
 
+-- the replicas that a request of this kind asks, by the stage of the tablet
 abbrev pub targets_of : Kind → Tablet → List Replica
 targets_of ReadKind tablet = reads_of tablet
 targets_of WriteKind tablet = writes_of tablet
@@ -96,6 +97,7 @@ pub record Request : Type 0 where
   pub targets : List Replica
   pub need : ℕ
 
+-- the request that goes this way; none where it is answered at once
 abbrev pub request_on : Operation → Version → Way → Option Request
 request_on operation version (Ends reply) = None
 request_on operation version (Goes route) =
@@ -120,6 +122,7 @@ request_at opening (entry ∷ history) lane op =
 
 -- ---- live requests
 
+-- the output is a reply to the request of this number
 abbrev pub is_reply_to : OpId → Output → Bool
 is_reply_to op (Replied number version kind reply) = same_op number op
 is_reply_to op output = false
@@ -135,17 +138,18 @@ is_event_of lane event = false
 abbrev pub replies_to : Entry → LaneId → OpId → Bool
 replies_to entry lane op = is_event_of lane entry.event && list_any (is_reply_to op) entry.outputs
 
--- a request is live from its begin until an entry replies to it or its lane restarts
+-- the request is live: it has begun, and from then on neither a reply to it nor a restart of its lane has come
 abbrev pub is_live : History → LaneId → OpId → Bool
 is_live [] lane op = false
 is_live (entry ∷ history) lane op =
     (begins_request history entry.event lane op || is_live history lane op)
     && not (replies_to entry lane op || is_restart_of (ByLane lane) entry.event)
 
--- the numbers of the lane's live requests, in the order of their begins, and how many they are
+-- the numbers of the lane's live requests, in the order of their begins
 abbrev pub live_ops : History → LaneId → List OpId
 live_ops history lane = filter (is_live history lane) (begun_ops history lane)
 
+-- how many live requests the lane has
 abbrev pub live_count : History → LaneId → ℕ
 live_count history lane = length (live_ops history lane)
 
@@ -153,6 +157,7 @@ live_count history lane = length (live_ops history lane)
 abbrev pub live_request : Opening → History → LaneId → OpId → Option Request
 live_request opening history lane op = if is_live history lane op then request_at opening history lane op else None
 
+-- there is such a request, and its version is below this one
 abbrev pub is_below : Version → Option Request → Bool
 is_below version None = false
 is_below version (Some request) = nat_lt request.version.0 version.0
@@ -167,10 +172,11 @@ abbrev pub numbers_below : ℕ → List ℕ
 numbers_below zero = []
 numbers_below (suc n) = numbers_below n ++ n ∷ []
 
+-- the lanes of a host, by number: each host has as many, numbered from 0
 abbrev pub lanes_of : Opening → HostId → List LaneId
 lanes_of opening host = map (λ lane. record { host = host; lane = lane }) (numbers_below opening.lanes)
 
--- a lane of the host has a live request below the version
+-- some lane of the host lags: one of its live requests is below the version
 abbrev pub has_live_below : Opening → History → HostId → Version → Bool
 has_live_below opening history host version = list_any (lags opening history version) (lanes_of opening host)
 
@@ -188,11 +194,12 @@ taken_answer history (Take by at) lane op =
     if same_lane by lane then answer_to lane op (message_at history at) else None
 taken_answer history event lane op = None
 
+-- the answers with a newer one, where there is one
 abbrev pub with_answer : Option Answer → List Answer → List Answer
 with_answer None answers = answers
 with_answer (Some answer) answers = answer ∷ answers
 
--- the answers that the lane took while the request was live, the newest first
+-- the answers to the request, each taken by its lane while it was live, the newest first
 abbrev pub answers_of : History → LaneId → OpId → List Answer
 answers_of [] lane op = []
 answers_of (entry ∷ history) lane op =

@@ -149,8 +149,8 @@ pub enum Event {
         /// The command.
         command: Command,
     },
-    /// An actor loses what it does not keep: a host its pulls, a lane its live requests, a coordinator its look and
-    /// what it heard.
+    /// An actor forgets what it does not keep. Of a host these are the pulls, of a lane the live requests, of a
+    /// coordinator its look and what it heard.
     Restart {
         /// The actor.
         actor: Actor,
@@ -188,7 +188,7 @@ pub enum Message {
 /// What an event gives.
 #[derive(Debug, Drop)]
 pub enum Output {
-    /// A message, which its addressee may take at any later place, any number of times, or never.
+    /// A message. Later events may hand it to its addressee once or often, and it may be lost.
     Sent(Message),
     /// What a client is told of its request.
     Reply {
@@ -213,7 +213,7 @@ pub enum Output {
 /// The outputs of an event, numbered from 0.
 pub type OutputList = Items<Output>;
 
-/// An event with its outputs.
+/// One event, and what it gave.
 #[derive(Debug, Drop)]
 pub struct Entry {
     /// The event.

@@ -31,7 +31,7 @@ impl Model for Log {
 }
 
 impl Log {
-    /// The log over a first state, without commands.
+    /// The log over a first state, without commands. `NoMemory` comes where memory for it is refused.
     pub fn new(alloc: Global, opening: TopoState) -> Result<Log, NoMemory>
         ensures { IfOk result (λ log. log ≡ record { first = opening; commands = [] }) }
     {
@@ -67,6 +67,7 @@ impl Log {
 
     /// Proposes a command whose proposer has read the state of this id. It is a conflict where that is not the last
     /// state, and illegal where the command breaks a rule there; then the log is as before. Else it is the next entry.
+    /// `NoMemory` comes where memory for that is refused, and leaves the log as it was.
     pub fn append(
         &mut self,
         alloc: Global,
@@ -95,6 +96,7 @@ impl Log {
     }
 
     /// The state after the first `n` commands. The last one is copied; an earlier one is made anew, command by command.
+    /// `NoMemory` comes where memory for that is refused.
     pub fn state_at(&self, alloc: Global, n: u64) -> Result<TopoState, NoMemory>
         requires { n ≤ length self.now.commands }
         ensures { IfOk result (λ state. state ≡ state_at self.now.first self.now.commands n) }

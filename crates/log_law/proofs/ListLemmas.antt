@@ -15,8 +15,8 @@ use Rattle.stage_graph.specs.declared.table.Selector.TheVariants.{Old, Both, New
 use Rattle.stage_graph.specs.Table.{reads, writes, extra}
 use Rattle.tablet_map.specs.declared.tablet.Tablet.{Tablet}
 use Rattle.tablet_map.specs.declared.tablet.Transition.{Transition}
-use Rattle.tablet_map.specs.Replicas.{CanMove, replaced}
-use Rattle.tablet_map.specs.Sets.{selected}
+use Rattle.tablet_map.specs.Replicas.{CanMove, replaced_list}
+use Rattle.tablet_map.specs.Sets.{selected_list}
 use Rattle.tablet_map.specs.Tablets.{IsSound}
 use Rattle.tablet_map.proofs.Joined.{and_left, and_right, and_both, or_left, or_right, or_neither, not_true, not_false}
 use Rattle.tablet_map.proofs.Replaced.{length-replaced, replaced_misses, replaced_distinct}
@@ -27,7 +27,7 @@ use Rattle.log_law.specs.Laws.{IsSoundView}
 
 -- sizes
 
-length-selected : (selector : Selector) (list : List Replica) (t : Transition) → length (selected selector list t) ≡ length list + extra selector
+length-selected : (selector : Selector) (list : List Replica) (t : Transition) → length (selected_list selector list t) ≡ length list + extra selector
 length-selected Old list t = omega arith
 length-selected Both list t = length-append list (t.pending ∷ [])
 length-selected New list t = omega (arith, length-replaced t.leaving t.pending list)
@@ -73,14 +73,14 @@ of_both list pending host h =
       | false ↦ λ k. elim (is_on host pending) as (λ w. (w || false) ≡ true → w ≡ true) [ true ↦ λ e. refl | false ↦ λ e. e ] k
     ] (sym (list_any-append (is_on host) list (pending ∷ [])) ∙ h)
 
-of_new : (list : List Replica) (t : Transition) (host : HostId) → has_host (replaced t.leaving t.pending list) host ≡ true → (has_host list host || is_on host t.pending) ≡ true
+of_new : (list : List Replica) (t : Transition) (host : HostId) → has_host (replaced_list t.leaving t.pending list) host ≡ true → (has_host list host || is_on host t.pending) ≡ true
 of_new list t host h =
     elim (has_host list host) as (λ v. has_host list host ≡ v → (v || is_on host t.pending) ≡ true) [
       | true ↦ λ p. refl
       | false ↦ λ p.
           elim (is_on host t.pending) as (λ w. is_on host t.pending ≡ w → w ≡ true) [
             | true ↦ λ q. refl
-            | false ↦ λ q. (let none : has_host (replaced t.leaving t.pending list) host ≡ false = replaced_misses t.leaving t.pending host list p q in cc)
+            | false ↦ λ q. (let none : has_host (replaced_list t.leaving t.pending list) host ≡ false = replaced_misses t.leaving t.pending host list p q in cc)
           ] refl
     ] refl
 

@@ -14,10 +14,10 @@ use Rattle.stage_graph.specs.Table.{reads, writes, extra, next_ok}
 use Rattle.tablet_map.specs.declared.tablet.Tablet.{Tablet}
 use Rattle.tablet_map.specs.declared.tablet.Transition.{Transition}
 use Rattle.tablet_map.specs.Tablets.{IsSound}
-use Rattle.tablet_map.specs.Sets.{selected}
+use Rattle.tablet_map.specs.Sets.{selected_list}
 use Rattle.tablet_map.proofs.Joined.{and_left, and_right, is_false}
 use Rattle.tablet_map.proofs.Counts.{one_if}
-use Rattle.topo_state.specs.Lists.{Cleaned, Leaving, Nobody, Pending, chosen, cleanable_in, cleaned_by, cleaned_side, is_both, is_cleanable, reads_of, stage_in, writes_both, writes_of}
+use Rattle.topo_state.specs.Lists.{Cleaned, Leaving, Nobody, Pending, chosen_list, cleanable_in, cleaned_by, cleaned_side, is_both, is_cleanable, reads_of, stage_in, writes_both, writes_of}
 use Rattle.log_law.specs.Pairs.{CleaningGoesOn, HasNoCleanable, IsAlike, IsPair, IsSameMove, Matters, NewList, OwnList, ReadBefore, ReadNow, ReadsGoOn, ReadsNew, ReadsOldAgain, SameReads, StaysCleanable, cleanable_host_in, is_cleaned_host, is_cleanable_host}
 use Rattle.log_law.specs.Steps.{Advances, Finishes, Regroups, Reverts, Starts, Stays, ViewStep}
 use Rattle.log_law.proofs.FrameLemmas.{framed}
@@ -63,7 +63,7 @@ count_ext f g same (r ∷ rest) =
 -- a list that matters is one that the move selects
 record IsChosen (old : Tablet) (new : Tablet) (move : Transition) (written : Selector) (list : List Replica) : Type 0 where
   selector : Selector
-  counts : (test : Replica → Bool) → count_by test list ≡ count_by test (selected selector old.replicas move)
+  counts : (test : Replica → Bool) → count_by test list ≡ count_by test (selected_list selector old.replicas move)
   carries : carries written selector ≡ true
   misses : misses (cleaned_side (stage_in new)) selector ≡ true
 
@@ -77,17 +77,17 @@ chosen_one old new written frame w can free list (OwnList p) =
 chosen_one old new written frame w can free list (NewList p q) =
     record { selector = turn_new (stage_in old) (stage_in new) New; counts = frame.new_counts New; carries = can.new_new p q; misses = free.new_new p refl }
 
-kept_by_replicas : (old new : Tablet) → IsSound old → (frame : Frame old new) (w : Selector) (list : List Replica) → IsChosen old new frame.move w list → (test : Replica → Bool) (n : ℕ) → n + extra w ≤ count_by test (selected w old.replicas frame.move) → n ≤ count_by (λ r. test r && not (is_cleanable new r)) list
+kept_by_replicas : (old new : Tablet) → IsSound old → (frame : Frame old new) (w : Selector) (list : List Replica) → IsChosen old new frame.move w list → (test : Replica → Bool) (n : ℕ) → n + extra w ≤ count_by test (selected_list w old.replicas frame.move) → n ≤ count_by (λ r. test r && not (is_cleanable new r)) list
 kept_by_replicas old new sound frame w list one test n h =
-    let enough : n ≤ count_by test (selected one.selector old.replicas frame.move) = carried w one.selector old.replicas frame.move test n one.carries frame.leaves h in
-    let none : count_by (cleaned_by (cleaned_side (stage_in new)) frame.move) (selected one.selector old.replicas frame.move) ≡ 0 =
+    let enough : n ≤ count_by test (selected_list one.selector old.replicas frame.move) = carried w one.selector old.replicas frame.move test n one.carries frame.leaves h in
+    let none : count_by (cleaned_by (cleaned_side (stage_in new)) frame.move) (selected_list one.selector old.replicas frame.move) ≡ 0 =
     missed (cleaned_side (stage_in new)) one.selector old.replicas frame.move one.misses sound.replicas.distinct frame.leaves frame.comes in
     let away : count_by (is_cleanable new) list ≡ 0 =
     count_ext (is_cleanable new) (cleaned_by (cleaned_side (stage_in new)) frame.move) frame.cleaned list ∙ (one.counts (cleaned_by (cleaned_side (stage_in new)) frame.move) ∙ none) in
     let same : count_by (λ r. test r && not (is_cleanable new r)) list ≡ count_by test list = count_less test (is_cleanable new) list away in
-    let there : count_by test list ≡ count_by test (selected one.selector old.replicas frame.move) = one.counts test in omega (arith, enough, same, there)
+    let there : count_by test list ≡ count_by test (selected_list one.selector old.replicas frame.move) = one.counts test in omega (arith, enough, same, there)
 
-away_from : (old new : Tablet) → IsSound old → (frame : Frame old new) (s : Selector) (list : List Replica) → ((test : Replica → Bool) → count_by test list ≡ count_by test (selected s old.replicas frame.move)) → misses (cleaned_side (stage_in new)) s ≡ true → count_by (is_cleanable new) list ≡ 0
+away_from : (old new : Tablet) → IsSound old → (frame : Frame old new) (s : Selector) (list : List Replica) → ((test : Replica → Bool) → count_by test list ≡ count_by test (selected_list s old.replicas frame.move)) → misses (cleaned_side (stage_in new)) s ≡ true → count_by (is_cleanable new) list ≡ 0
 away_from old new sound frame s list counts free =
     count_ext (is_cleanable new) (cleaned_by (cleaned_side (stage_in new)) frame.move) frame.cleaned list ∙
     (counts (cleaned_by (cleaned_side (stage_in new)) frame.move) ∙ missed (cleaned_side (stage_in new)) s old.replicas frame.move free sound.replicas.distinct frame.leaves frame.comes)
@@ -151,7 +151,7 @@ nobody_by_cases (Some t) host h =
     elim (cleaned_side (Some t.stage)) as (λ c. is_nobody c ≡ true → is_cleaned_host c t host ≡ false)
     [ Nobody ↦ λ k. refl | Leaving ↦ λ k. cc k | Pending ↦ λ k. cc k ] h
 
-kept : (old new : Tablet) → IsSound old → (frame : Frame old new) (w : Selector) (list : List Replica) → IsChosen old new frame.move w list → (test : Replica → Bool) (n : ℕ) → n + extra w ≤ count_by test (selected w old.replicas frame.move) → n ≤ count_by (λ (r : Replica). test r && not (is_cleanable_host new r.host)) list
+kept : (old new : Tablet) → IsSound old → (frame : Frame old new) (w : Selector) (list : List Replica) → IsChosen old new frame.move w list → (test : Replica → Bool) (n : ℕ) → n + extra w ≤ count_by test (selected_list w old.replicas frame.move) → n ≤ count_by (λ (r : Replica). test r && not (is_cleanable_host new r.host)) list
 kept old new sound frame w list one test n h =
     let same : count_by (λ (r : Replica). test r && not (is_cleanable new r)) list ≡ count_by (λ (r : Replica). test r && not (is_cleanable_host new r.host)) list =
     count_ext (λ (r : Replica). test r && not (is_cleanable new r)) (λ (r : Replica). test r && not (is_cleanable_host new r.host)) (λ r. ap (λ b. test r && not b) (cleanable_of_host new r)) list in
@@ -187,9 +187,9 @@ after_target to h = cc
 
 -- what is read
 
-alike_lists : (old new : Tablet) (frame : Frame old new) (a b : List Replica) (s u : Selector) → ((test : Replica → Bool) → count_by test a ≡ count_by test (selected s old.replicas frame.move)) → ((test : Replica → Bool) → count_by test b ≡ count_by test (selected u old.replicas frame.move)) → s ≡ u → IsAlike a b
+alike_lists : (old new : Tablet) (frame : Frame old new) (a b : List Replica) (s u : Selector) → ((test : Replica → Bool) → count_by test a ≡ count_by test (selected_list s old.replicas frame.move)) → ((test : Replica → Bool) → count_by test b ≡ count_by test (selected_list u old.replicas frame.move)) → s ≡ u → IsAlike a b
 alike_lists old new frame a b s u p q same =
-    alike a b (λ test. p test ∙ (ap (λ (x : Selector). count_by test (selected x old.replicas frame.move)) same ∙ sym (q test)))
+    alike a b (λ test. p test ∙ (ap (λ (x : Selector). count_by test (selected_list x old.replicas frame.move)) same ∙ sym (q test)))
 
 reads_go_on : (i : ℕ) (old new : Tablet) → Frame old new → ViewStep i old new → ReadsGoOn old new
 reads_go_on i old new frame step =
@@ -204,15 +204,15 @@ reads_go_on i old new frame step =
           elim (switch_cases from to e) [
             | inl at ↦
                 ReadsNew at.0 at.1
-                (alike_lists old new frame (reads_of old) (chosen Old old) (turn_old from (reads from)) (turn_old from Old) (frame.old_counts (reads from)) (frame.old_counts Old)
+                (alike_lists old new frame (reads_of old) (chosen_list Old old) (turn_old from (reads from)) (turn_old from Old) (frame.old_counts (reads from)) (frame.old_counts Old)
                 (ap (λ x. turn_old x (reads x)) at.0 ∙ sym (ap (λ x. turn_old x Old) at.0)))
-                (alike_lists old new frame (reads_of new) (chosen New old) (turn_new from to (reads to)) (turn_old from New) (frame.new_counts (reads to)) (frame.old_counts New)
+                (alike_lists old new frame (reads_of new) (chosen_list New old) (turn_new from to (reads to)) (turn_old from New) (frame.new_counts (reads to)) (frame.old_counts New)
                 (ap (λ x. turn_new from x (reads x)) at.1 ∙ sym (ap (λ x. turn_old x New) at.0)))
             | inr at ↦
                 ReadsOldAgain at.0 at.1
-                (alike_lists old new frame (reads_of old) (chosen New old) (turn_old from (reads from)) (turn_old from New) (frame.old_counts (reads from)) (frame.old_counts New)
+                (alike_lists old new frame (reads_of old) (chosen_list New old) (turn_old from (reads from)) (turn_old from New) (frame.old_counts (reads from)) (frame.old_counts New)
                 (ap (λ x. turn_old x (reads x)) at.0 ∙ sym (ap (λ x. turn_old x New) at.0)))
-                (alike_lists old new frame (reads_of new) (chosen Old old) (turn_new from to (reads to)) (turn_old from Old) (frame.new_counts (reads to)) (frame.old_counts Old)
+                (alike_lists old new frame (reads_of new) (chosen_list Old old) (turn_new from to (reads to)) (turn_old from Old) (frame.new_counts (reads to)) (frame.old_counts Old)
                 (ap (λ x. turn_new from x (reads x)) at.1 ∙ sym (ap (λ x. turn_old x Old) at.0)))
           ]
     ]
@@ -257,7 +257,7 @@ still_same_move i old new (Advances t to was ok e) p q a b f g =
 still_same_move i old new (Finishes t was at e) p q a b f g = (let none : writes_both new ≡ false = ap writes_both e in cc)
 still_same_move i old new (Reverts t was at e) p q a b f g = (let none : writes_both new ≡ false = ap writes_both e in cc)
 
-begun_both : (i : ℕ) (old new : Tablet) → Frame old new → ViewStep i old new → writes_both new ≡ true → writes_both old ≡ false → (stage_in old ≡ Some AllowWriteBothReadOld) × (stage_in new ≡ Some WriteBothReadOld) × IsAlike (chosen Old new) (reads_of old)
+begun_both : (i : ℕ) (old new : Tablet) → Frame old new → ViewStep i old new → writes_both new ≡ true → writes_both old ≡ false → (stage_in old ≡ Some AllowWriteBothReadOld) × (stage_in new ≡ Some WriteBothReadOld) × IsAlike (chosen_list Old new) (reads_of old)
 begun_both i old new frame step p q =
     let from : Option Stage = stage_in old in
     let to : Option Stage = stage_in new in
@@ -268,7 +268,7 @@ begun_both i old new frame step p q =
     let stages = first_both_cases from to (and_left (is_first_both from to) same both) in (
       stages.0,
       stages.1,
-      alike_lists old new frame (chosen Old new) (reads_of old) (turn_new from to Old) (turn_old from (reads from)) (frame.new_counts Old) (frame.old_counts (reads from))
+      alike_lists old new frame (chosen_list Old new) (reads_of old) (turn_new from to Old) (turn_old from (reads from)) (frame.new_counts Old) (frame.old_counts (reads from))
           (same_is (turn_new from to Old) (turn_old from (reads from)) (and_right (is_first_both from to) same both)),
     )
 
@@ -360,10 +360,10 @@ pair_of_step i old new sound later step =
       free = λ written list matters. free_list old new written sound frame free list matters;
       kept_before = λ list matters test n h.
           kept old new sound frame wo list (chosen_one old new old frame wo can_old free list matters) test n
-          (let c : count_by test (writes_of old) ≡ count_by test (selected wo old.replicas frame.move) = frame.old_counts (writes from) test in omega (arith, h, eo, c));
+          (let c : count_by test (writes_of old) ≡ count_by test (selected_list wo old.replicas frame.move) = frame.old_counts (writes from) test in omega (arith, h, eo, c));
       kept_now = λ list matters test n h.
           kept old new sound frame wn list (chosen_one old new new frame wn can_new free list matters) test n
-          (let c : count_by test (writes_of new) ≡ count_by test (selected wn old.replicas frame.move) = frame.new_counts (writes to) test in omega (arith, h, en, c));
+          (let c : count_by test (writes_of new) ≡ count_by test (selected_list wn old.replicas frame.move) = frame.new_counts (writes to) test in omega (arith, h, en, c));
     }
 
 -- a view is a pair with itself

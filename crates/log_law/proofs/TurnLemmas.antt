@@ -16,7 +16,7 @@ use Rattle.stage_graph.proofs.Every.{at_each, at_each_move}
 use Rattle.tablet_map.specs.declared.tablet.Tablet.{Tablet}
 use Rattle.tablet_map.specs.declared.tablet.Transition.{Transition}
 use Rattle.base_ids.specs.Replicas.{has_replica, has_host, is_on, on_distinct_hosts}
-use Rattle.tablet_map.specs.Sets.{selected}
+use Rattle.tablet_map.specs.Sets.{selected_list}
 use Rattle.tablet_map.proofs.Joined.{and_left, and_right, or_left, or_right, not_true, is_false}
 use Rattle.tablet_map.proofs.Members.{host_of}
 use Rattle.tablet_map.proofs.Counts.{one_if, count_behind, count_replaced}
@@ -136,7 +136,7 @@ count_less test away (r ∷ rest) h =
 
 -- by selectors
 
-pub carried : (a b : Selector) (list : List Replica) (t : Transition) (test : Replica → Bool) (w : ℕ) → carries a b ≡ true → has_replica list t.leaving ≡ true → w + extra a ≤ count_by test (selected a list t) → w ≤ count_by test (selected b list t)
+pub carried : (a b : Selector) (list : List Replica) (t : Transition) (test : Replica → Bool) (w : ℕ) → carries a b ≡ true → has_replica list t.leaving ≡ true → w + extra a ≤ count_by test (selected_list a list t) → w ≤ count_by test (selected_list b list t)
 carried Old Old list t test w ok leaves h = omega arith
 carried Old Both list t test w ok leaves h = cc ok
 carried Old New list t test w ok leaves h = cc ok
@@ -151,8 +151,8 @@ carried New Old list t test w ok leaves h = cc ok
 carried New Both list t test w ok leaves h = cc ok
 carried New New list t test w ok leaves h = omega arith
 
-pub missed : (c : Cleaned) (s : Selector) (list : List Replica) (t : Transition) → misses c s ≡ true → on_distinct_hosts list ≡ true → has_replica list t.leaving ≡ true → (has_host list t.pending.host ≡ false) ⊎ (c ≡ Nobody) → count_by (cleaned_by c t) (selected s list t) ≡ 0
-missed Nobody s list t ok distinct leaves comes = count_none (cleaned_by Nobody t) (λ r. refl) (selected s list t)
+pub missed : (c : Cleaned) (s : Selector) (list : List Replica) (t : Transition) → misses c s ≡ true → on_distinct_hosts list ≡ true → has_replica list t.leaving ≡ true → (has_host list t.pending.host ≡ false) ⊎ (c ≡ Nobody) → count_by (cleaned_by c t) (selected_list s list t) ≡ 0
+missed Nobody s list t ok distinct leaves comes = count_none (cleaned_by Nobody t) (λ r. refl) (selected_list s list t)
 missed Leaving Old list t ok distinct leaves comes = cc ok
 missed Leaving Both list t ok distinct leaves comes = cc ok
 missed Leaving New list t ok distinct leaves (inr e) = cc e

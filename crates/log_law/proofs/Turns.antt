@@ -10,8 +10,8 @@ use Rattle.stage_graph.specs.Table.{reads, writes, extra}
 use Rattle.stage_graph.specs.Rules.{every, every_move}
 use Rattle.tablet_map.specs.declared.tablet.Tablet.{Tablet}
 use Rattle.tablet_map.specs.declared.tablet.Transition.{Transition}
-use Rattle.tablet_map.specs.Sets.{selected}
-use Rattle.topo_state.specs.Lists.{Cleaned, Leaving, Nobody, Pending, chosen, cleaned_by, cleaned_side, is_both, is_cleanable, stage_in}
+use Rattle.tablet_map.specs.Sets.{selected_list}
+use Rattle.topo_state.specs.Lists.{Cleaned, Leaving, Nobody, Pending, chosen_list, cleaned_by, cleaned_side, is_both, is_cleanable, stage_in}
 
 -- What a selector of the older view and of the newer one chooses there: where there is no transition the old list,
 -- and behind the last stage the new one.
@@ -111,6 +111,6 @@ pub record Frame (old : Tablet) (new : Tablet) : Type 0 where
   pub move : Transition
   pub leaves : has_replica old.replicas move.leaving ≡ true
   pub comes : (has_host old.replicas move.pending.host ≡ false) ⊎ (cleaned_side (stage_in new) ≡ Nobody)
-  pub old_counts : (selector : Selector) (test : Replica → Bool) → count_by test (chosen selector old) ≡ count_by test (selected (turn_old (stage_in old) selector) old.replicas move)
-  pub new_counts : (selector : Selector) (test : Replica → Bool) → count_by test (chosen selector new) ≡ count_by test (selected (turn_new (stage_in old) (stage_in new) selector) old.replicas move)
+  pub old_counts : (selector : Selector) (test : Replica → Bool) → count_by test (chosen_list selector old) ≡ count_by test (selected_list (turn_old (stage_in old) selector) old.replicas move)
+  pub new_counts : (selector : Selector) (test : Replica → Bool) → count_by test (chosen_list selector new) ≡ count_by test (selected_list (turn_new (stage_in old) (stage_in new) selector) old.replicas move)
   pub cleaned : (replica : Replica) → is_cleanable new replica ≡ cleaned_by (cleaned_side (stage_in new)) move replica

@@ -15,7 +15,7 @@ use Rattle.topo_state.specs.declared.moves.Move.{Move}
 use Rattle.topo_state.specs.Moves.{move_of}
 use Rattle.topo_state.specs.declared.command.Command.{Command}
 use Rattle.topo_state.specs.State.{Topology, is_member}
-use Rattle.topo_state.specs.Lists.{stage_in, chosen, reads_of, writes_of}
+use Rattle.topo_state.specs.Lists.{stage_in, chosen_list, reads_of, writes_of}
 use Rattle.topo_state.specs.Openings.{IsOpening}
 use Rattle.topo_state.specs.Sessions.{SessionPlace, place_of_session}
 use Rattle.topo_state.specs.Sound.{IsOnMembers, IsTopology}
@@ -63,8 +63,8 @@ pub record IsSoundView (members : List HostId) (tablet : Tablet) : Type 0 where
   pub on : IsOnMembers members tablet
   pub reads_size : length (reads_of tablet) ≡ length tablet.replicas
   pub writes_size : length (writes_of tablet) ≡ length tablet.replicas + extra (writes (stage_in tablet))
-  pub distinct : (selector : Selector) → on_distinct_hosts (chosen selector tablet) ≡ true
-  pub within : (selector : Selector) (host : HostId) → has_host (chosen selector tablet) host ≡ true →
+  pub distinct : (selector : Selector) → on_distinct_hosts (chosen_list selector tablet) ≡ true
+  pub within : (selector : Selector) (host : HostId) → has_host (chosen_list selector tablet) host ≡ true →
       is_member members host ≡ true
 
 -- Each state is sound, and so is what each key sees of it.

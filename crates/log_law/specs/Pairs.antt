@@ -9,7 +9,7 @@ use Rattle.stage_graph.specs.declared.table.Selector.TheVariants.{Old, New}
 use Rattle.stage_graph.specs.Table.{writes, extra}
 use Rattle.tablet_map.specs.declared.tablet.Tablet.{Tablet}
 use Rattle.tablet_map.specs.declared.tablet.Transition.{Transition}
-use Rattle.topo_state.specs.Lists.{stage_in, chosen, reads_of, writes_of, writes_both, Cleaned, Nobody, Leaving, Pending, cleaned_side, is_cleanable}
+use Rattle.topo_state.specs.Lists.{stage_in, chosen_list, reads_of, writes_of, writes_both, Cleaned, Nobody, Leaving, Pending, cleaned_side, is_cleanable}
 
 -- the host that may be cleaned, by what a stage cleans
 abbrev pub is_cleaned_host : Cleaned → Transition → HostId → Bool
@@ -40,9 +40,9 @@ pub record HasNoCleanable (tablet : Tablet) (list : List Replica) : Type 0 where
 pub data ReadsGoOn (old : Tablet) (new : Tablet) : Type 0 where
   SameReads : IsAlike (reads_of new) (reads_of old) → ReadsGoOn old new
   ReadsNew : stage_in old ≡ Some Streaming → stage_in new ≡ Some WriteBothReadNew →
-      IsAlike (reads_of old) (chosen Old old) → IsAlike (reads_of new) (chosen New old) → ReadsGoOn old new
+      IsAlike (reads_of old) (chosen_list Old old) → IsAlike (reads_of new) (chosen_list New old) → ReadsGoOn old new
   ReadsOldAgain : stage_in old ≡ Some WriteBothReadNew → stage_in new ≡ Some FallbackCleanup →
-      IsAlike (reads_of old) (chosen New old) → IsAlike (reads_of new) (chosen Old old) → ReadsGoOn old new
+      IsAlike (reads_of old) (chosen_list New old) → IsAlike (reads_of new) (chosen_list Old old) → ReadsGoOn old new
 
 -- the same replicas leave and come, under the same session
 pub record IsSameMove (a : Transition) (b : Transition) : Type 0 where
@@ -55,7 +55,7 @@ pub record IsSameMove (a : Transition) (b : Transition) : Type 0 where
 pub record BothGoesOn (old : Tablet) (new : Tablet) : Type 0 where
   pub begins : writes_both new ≡ true → writes_both old ≡ false →
       (stage_in old ≡ Some AllowWriteBothReadOld) × (stage_in new ≡ Some WriteBothReadOld) ×
-      IsAlike (chosen Old new) (reads_of old)
+      IsAlike (chosen_list Old new) (reads_of old)
   pub same_list : writes_both new ≡ true → writes_both old ≡ true → new.replicas ≡ old.replicas
   pub same_move : writes_both new ≡ true → writes_both old ≡ true → (a b : Transition) → old.transition ≡ Some a →
       new.transition ≡ Some b → IsSameMove a b
@@ -88,8 +88,8 @@ CleaningGoesOn old new =
 pub data Matters (old : Tablet) (new : Tablet) (written : Tablet) : List Replica → Type 0 where
   ReadBefore : Matters old new written (reads_of old)
   ReadNow : Matters old new written (reads_of new)
-  OwnList : writes_both new ≡ true → Matters old new written (chosen Old new)
-  NewList : writes_both new ≡ true → writes_both written ≡ true → Matters old new written (chosen New new)
+  OwnList : writes_both new ≡ true → Matters old new written (chosen_list Old new)
+  NewList : writes_both new ≡ true → writes_both written ≡ true → Matters old new written (chosen_list New new)
 
 -- Where the base need, and the extra one, of the replicas that a write goes to pass a test, the base need of each list
 -- that matters pass it and are on hosts that may not be cleaned.

@@ -13,7 +13,7 @@ use Rattle.tablet_map.specs.declared.tablet.Tablet.{Tablet}
 use Rattle.tablet_map.specs.declared.tablet.Transition.{Transition}
 use Rattle.tablet_map.specs.Replicas.{IsReplicaSet, CanMove}
 use Rattle.tablet_map.specs.Tablets.{IsSound}
-use Rattle.tablet_map.specs.Sets.{selected}
+use Rattle.tablet_map.specs.Sets.{selected_list}
 use Rattle.tablet_map.proofs.Joined.{and_left, and_right, and_both, or_left, or_right, or_neither, not_true, not_false, is_false}
 use Rattle.tablet_map.proofs.Members.{host_of}
 use Rattle.tablet_map.proofs.Replaced.{length-replaced, replaced_distinct}
@@ -60,7 +60,7 @@ pub record IsChosen (count : ℕ) (selector : Selector) (list : List Replica) : 
   pub distinct : on_distinct_hosts list ≡ true
   pub size : length list ≡ count + extra selector
 
-selected_is : (selector : Selector) (replicas : List Replica) (t : Transition) → IsReplicaSet replicas → CanMove replicas t.leaving t.pending → IsChosen (length replicas) selector (selected selector replicas t)
+selected_is : (selector : Selector) (replicas : List Replica) (t : Transition) → IsReplicaSet replicas → CanMove replicas t.leaving t.pending → IsChosen (length replicas) selector (selected_list selector replicas t)
 selected_is Old replicas t set moves = record { distinct = set.distinct; size = omega arith }
 selected_is Both replicas t set moves =
     record {

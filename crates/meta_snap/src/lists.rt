@@ -1,8 +1,8 @@
 //! The lists of replicas that are kept for tablets that move.
 ghost use Rattle.std.specs.Prelude.{◌≡◌, IfOk, map, option_copied, position};
 ghost use Rattle.base_ids.specs.Replicas.{same_replica};
-ghost use Rattle.tablet_map.specs.Replicas.{replaced};
-ghost use Rattle.tablet_map.specs.Sets.{selected};
+ghost use Rattle.tablet_map.specs.Replicas.{replaced_list};
+ghost use Rattle.tablet_map.specs.Sets.{selected_list};
 ghost use Rattle.meta_snap.specs.Lists.{lists_in, table_lists, lists_of_table};
 
 use base_ids::{Items, NoMemory, Replica, TableId};
@@ -81,7 +81,7 @@ fn selected(
     replicas: &[Replica],
     transition: &Transition,
 ) -> Result<Items<Replica>, NoMemory>
-    ensures { IfOk result (λ list. list ≡ selected selector replicas.now transition.now) }
+    ensures { IfOk result (λ list. list ≡ selected_list selector replicas.now transition.now) }
 {
     let mut list = Vec::from_slice(alloc, replicas)?;
     match selector {
@@ -94,7 +94,7 @@ fn selected(
 
 /// Puts the pending replica into the leaving one's place.
 fn replace(replicas: &mut [Replica], leaving: Replica, pending: Replica)
-    ensures { replicas.new ≡ replaced leaving pending replicas.old }
+    ensures { replicas.new ≡ replaced_list leaving pending replicas.old }
 {
     if let Some(at) = place_of(replicas, leaving) {
         replicas[at] = pending;

@@ -33,7 +33,7 @@ impl Model for Snapshot {
 impl Snapshot {
     ghost use Rattle.meta_snap.specs.Routes.{directions_lent};
 
-    /// The snapshot of a state.
+    /// The snapshot of a state. `NoMemory` comes where memory for it is refused.
     pub fn resolve(alloc: Global, state: &TopoState) -> Result<Snapshot, NoMemory>
         ensures { IfOk result (λ snapshot. snapshot ≡ state.now) }
     {
@@ -61,8 +61,8 @@ impl Snapshot {
             .any(|member| is_same(host, *member))
     }
 
-    /// Where requests for a key go, and how many answers they need. `None` exactly where the table is not there.
-    /// Nothing is copied: the lists are lent.
+    /// Where requests for a key go, and how many answers they need. `None` where the state lacks the table, and only
+    /// there. Nothing is copied: the lists are lent.
     pub fn route(&self, table: TableId, token: Token) -> Option<Route<'_>>
         ensures route { option_map directions_lent result ≡ directions_in self.now table token.value }
         ensures reads { IfSome result (λ route. CanAnswer route.reads.now route.read_need) }

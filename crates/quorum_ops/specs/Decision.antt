@@ -43,16 +43,19 @@ said_cell (Some Written) = None
 said_cell (Some (Found cell)) = cell
 said_cell (Some (Refused fence)) = None
 
+-- the replica counts as answered, by what it said first
 abbrev pub has_answered : List Answer → Replica → Bool
 has_answered answers replica = says_data (first_said answers replica)
 
+-- the replica counts as refused, by what it said first
 abbrev pub has_refused : List Answer → Replica → Bool
 has_refused answers replica = says_stale (first_said answers replica)
 
--- how many of the targets have answered, and how many have refused
+-- how many of the targets count as answered
 abbrev pub answered_count : List Answer → List Replica → ℕ
 answered_count answers targets = count_by (has_answered answers) targets
 
+-- how many of the targets count as refused
 abbrev pub refused_count : List Answer → List Replica → ℕ
 refused_count answers targets = count_by (has_refused answers) targets
 
@@ -67,8 +70,8 @@ abbrev pub good_reply : Kind → Option Cell → Reply
 good_reply WriteKind cell = Ok
 good_reply ReadKind cell = Read cell
 
--- By the newest answer the request is decided: where it is data, once as many targets as needed have
--- answered; where it is a refusal, once the targets that have not refused are fewer than needed.
+-- By the newest answer the request is decided: data decides it where enough of the targets have answered, and a
+-- refusal where without those that refused too few targets are left.
 abbrev pub decision_by : Said → Kind → List Replica → ℕ → List Answer → Option Reply
 decision_by Written kind targets need answers =
     if nat_le need (answered_count answers targets) then Some (good_reply kind (greatest_told answers targets))

@@ -1,4 +1,4 @@
--- An operation after the answers that it took, and what a list of answers brings when they are taken one by one.
+-- A request after the answers that it took, and what a list of answers brings when they are taken one by one.
 use Rattle.std.specs.Prelude.{ℕ, Bool, not, List, [], ◌∷◌, map, Option, Some, None}
 use Rattle.std.specs.List.{list_any}
 use Rattle.std.specs.Option.{option_or}
@@ -20,7 +20,7 @@ use Rattle.quorum_ops.specs.declared.taking.Taking.TheVariants.{Decided, Waiting
 use Rattle.quorum_ops.specs.Decision.{first_said, greatest_told, decision}
 use Rattle.quorum_ops.specs.Pending.{Pending, PendingRead, after_answer, read_after_answer, write_taking, read_taking}
 
--- ---- the operation, by the answers that it took, the newest first
+-- ---- the request, by the answers that it took, the newest first
 
 abbrev pub standing_of : Option Said → Standing
 standing_of None = Unmarked

@@ -12,9 +12,9 @@ ghost use Rattle.quorum_ops.specs.Decision.{decision, timeout_reply};
 ghost use Rattle.quorum_ops.specs.Pending.{Pending, PendingRead, IsUndecided, pending_of, pending_read_of, after_answer, read_after_answer, write_taking, read_taking, timeout_of};
 ghost use Rattle.quorum_ops.specs.Taken.{pending_by, pending_read_by, taking_by, write_outcome, read_outcome, first_decision, is_stranger, is_repeat};
 
-/// The laws of a write and a read that take answers: what is seen of an operation is what the definitions
+/// The laws of a write and a read that take answers: what is seen of a request is what the definitions
 /// say of the answers that it took, and taking a whole list one by one, up to the first answer that
-/// decides, gives the first decision that the definition finds in that list. An operation that is given up
+/// decides, gives the first decision that the definition finds in that list. A request that is given up
 /// replies by the answers that it took. It does nothing: its clauses are what it is for.
 pub fn decision_laws()
     ensures write_stands { (lane : LaneId) (op : OpId) (targets : List Replica) (need : ℕ) (earlier : List Answer)
@@ -46,7 +46,7 @@ pub fn decision_laws()
 {}
 
 /// The laws of answers that do not count: one of a replica that was not asked, and one of a replica that
-/// answered before. Taken by an operation that is undecided, as it is when it begins and stays while nothing
+/// answered before. Taken by a request that is undecided, as it is when it begins and stays while nothing
 /// decides it, such an answer changes nothing and decides nothing; wherever it stands in a list, the list's
 /// first decision is the same without it.
 pub fn idle_laws()

@@ -1,4 +1,4 @@
-// The operations of a lane: what it asks of replicas, what they answer, and when answers decide a request.
+// The requests of a lane: what they ask of replicas, what those answer, and when answers decide a request.
 #![tactic(auto)]
 
 mod data;

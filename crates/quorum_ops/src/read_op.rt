@@ -38,7 +38,7 @@ impl ReadOp {
     ghost use Rattle.base_ids.specs.Replicas.{AreDistinct};
     ghost use Rattle.quorum_ops.specs.Pending.{pending_read_of, NamesRequest, IsUndecided, read_after_answer, read_taking, data_taking, timeout_of};
 
-    /// Begins a read: one ask for each target, in their order.
+    /// Begins a read: one ask for each target, in their order. `NoMemory` comes where memory for the asks is refused.
     pub fn begin(
         alloc: Global,
         lane: LaneId,
@@ -88,9 +88,9 @@ impl ReadOp {
 
     /// Takes an answer to this request, which nothing has decided yet.
     ///
-    /// `Read` comes exactly at the fresh answer that makes the needed number, with the greatest cell of the
-    /// answers that count; `Stale` exactly at the fresh refusal that leaves fewer targets than needed, with
-    /// that refusal's fence.
+    /// The answer decides `Read`, with the greatest of the cells that counted, where with it enough targets have
+    /// answered. It decides `Stale`, with its own fence, where it is a refusal and too few targets are left after it.
+    /// Of each target only what it says first counts.
     pub fn take(&mut self, answer: &Answer) -> Taking
         requires named { NamesRequest self.old.request answer.now }
         requires undecided { IsUndecided self.old.request }

@@ -34,7 +34,8 @@ impl WriteOp {
     ghost use Rattle.base_ids.specs.Replicas.{AreDistinct};
     ghost use Rattle.quorum_ops.specs.Pending.{write_to, pending_of, NamesRequest, IsUndecided, after_answer, write_taking, timeout_of};
 
-    /// Begins a write of this cell: one ask for each target, in their order.
+    /// Begins a write of this cell: one ask for each target, in their order. `NoMemory` comes where memory for the asks
+    /// is refused.
     pub fn begin(
         alloc: Global,
         lane: LaneId,
@@ -79,8 +80,8 @@ impl WriteOp {
 
     /// Takes an answer to this request, which nothing has decided yet.
     ///
-    /// `Ok` comes exactly at the fresh answer that makes the needed number, `Stale` exactly at the fresh
-    /// refusal that leaves fewer targets than needed, with that refusal's fence.
+    /// The answer decides `Ok` where with it enough targets have answered. It decides `Stale`, with its own fence,
+    /// where it is a refusal and too few targets are left after it. Of each target only what it says first counts.
     pub fn take(&mut self, answer: &Answer) -> Taking
         requires named { NamesRequest self.old answer.now }
         requires undecided { IsUndecided self.old }

@@ -28,12 +28,13 @@ ended_by (Ended request) = Some request
 abbrev pub Stands : List ClientEvent → ℕ → ClientEvent → Type 0
 Stands events place event = slice_get events place ≡ Some event
 
--- the request begins, or ends, at this place
+-- the request begins at this place
 pub record BeginsAt (events : List ClientEvent) (place : ℕ) (request : Request) : Type 0 where
   pub event : ClientEvent
   pub stands : Stands events place event
   pub begins : begun_by event ≡ Some request
 
+-- the request ends at this place
 pub record EndsAt (events : List ClientEvent) (place : ℕ) (request : Request) : Type 0 where
   pub event : ClientEvent
   pub stands : Stands events place event
@@ -97,7 +98,7 @@ ReadsNotBelow events =
     → Stands events place (ReadOk reader cell)
     → IsNotBelow cell (Some written)
 
--- The list is a run of the register machine.
+-- The client events are a run: the register machine allows each of them.
 pub record IsRegisterRun (events : List ClientEvent) : Type 0 where
   pub begins_once : BeginsOnce events
   pub ends_open : EndsOpen events

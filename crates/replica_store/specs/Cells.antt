@@ -16,6 +16,7 @@ Cells = List (TableId × Stored)
 abbrev pub rank : TableId → Token → ℕ
 rank table token = table.0 * 2 ^ 64 + place token.value
 
+-- the place of a stored cell
 abbrev pub rank_of : TableId × Stored → ℕ
 rank_of e = rank e.0 e.1.token
 
@@ -47,6 +48,7 @@ abbrev pub is_within : TableId → TokenRange → TableId → Token → Bool
 is_within table range other_table token = (other_table.0 == table.0) &&
     (int_le range.first.value token.value && int_le token.value range.last.value)
 
+-- the stored cell lies in the range of the table
 abbrev pub is_inside : TableId → TokenRange → TableId × Stored → Bool
 is_inside table range e = is_within table range e.0 e.1.token
 

@@ -7,7 +7,8 @@ use base_ids::{NoMemory, TableId};
 use std::alloc::Global;
 use token_ring::TokenRange;
 
-/// All cells of a range in the order of their tokens, asked for in chunks of at most `max`.
+/// All cells of a range in the order of their tokens, asked for in chunks of at most `max`. `NoMemory` comes where
+/// memory for the list is refused.
 pub fn gather<S: Store>(
     alloc: Global,
     store: &S,

@@ -13,7 +13,9 @@ use token_ring::{Token, TokenRange};
 /// A cell with its token. The table is told beside it.
 #[derive(Clone, Copy, Debug, PartialEq, Eq)]
 pub struct Stored {
+    /// The token of its key.
     pub token: Token,
+    /// The cell.
     pub cell: Cell,
 }
 
@@ -23,8 +25,9 @@ pub type StoredList = Items<Stored>;
 /// Cells that a store lends, in the order of their tokens.
 #[derive(Clone, Copy, Debug)]
 pub struct Chunk<'a> {
+    /// The cells, each with its token.
     pub cells: &'a [Stored],
-    /// Whether the range has a further cell after these.
+    /// Whether cells of the range are left after these.
     pub more: bool,
 }
 

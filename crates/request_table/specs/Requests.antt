@@ -6,7 +6,7 @@ use Rattle.base_ids.specs.declared.OpId.{OpId}
 use Rattle.base_ids.specs.declared.Version.{Version}
 use Rattle.request_table.specs.declared.Live.{Live}
 
--- the live requests in the order of their begin, each under its number, and the number that has room
+-- the live requests as they began one after the other, each under its number, and the number that has room
 pub record Requests (P O : Type 0) : Type 0 where
   pub live : List (OpId × Live P O)
   pub room : Option OpId
@@ -29,7 +29,7 @@ module _ {P O : Type 0} where
   with_work (r ∷ rs) op work = if is_same_request op r.0 then (r.0, record r.1 { work = work }) ∷ rs
       else r ∷ with_work rs op work
 
-  -- the versions of the live requests, in the order of their begin
+  -- the versions of the live requests, as these began one after the other
   abbrev pub versions_of : List (OpId × Live P O) → List ℕ
   versions_of live = map (λ request. request.version.0) (values_of live)
 

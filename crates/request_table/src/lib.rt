@@ -20,7 +20,7 @@ pub struct Live<P, O> {
     pub version: Version,
     /// What the request holds for as long as it lives.
     pub held: P,
-    /// The operation that is carried out.
+    /// The work that is carried out.
     pub work: O,
 }
 
@@ -103,7 +103,7 @@ impl<P: Drop, O: Drop> RequestTable<P, O> {
         self.requests.get(&op)
     }
 
-    /// Puts another operation in the place of a live request's. Where the request is not live, nothing changes.
+    /// Puts other work in the place of a live request's. Where the request is not live, nothing changes.
     pub fn replace(&mut self, op: OpId, work: O)
         ensures live { self.new.live ≡ with_work self.old.live op work }
         ensures room { self.new.room ≡ self.old.room }
@@ -114,7 +114,7 @@ impl<P: Drop, O: Drop> RequestTable<P, O> {
         }
     }
 
-    /// Lends the operation of a request, to be changed. `None` comes exactly where the request is not live.
+    /// Lends the work of a request, to be changed. `None` comes exactly where the request is not live.
     pub fn get_mut(&mut self, op: OpId) -> Option<&mut O>
         ensures* writes_back { sem 𝓛 (LendsWork P.row O.row self.entry op result) }
         ensures value { option_copied_mut result ≡ option_map (λ r. r.work) (request_of self.old.live op) }
@@ -125,7 +125,7 @@ impl<P: Drop, O: Drop> RequestTable<P, O> {
         }
     }
 
-    /// Ends a request: takes it out, and the others keep their order. `None` comes exactly where it is not live.
+    /// Ends a request: takes it out, and the others keep their order. `None` where no live request has the number.
     pub fn remove(&mut self, op: OpId) -> Option<(Version, P, O)>
         ensures value { result ≡ option_map (λ r. (r.version, r.held, r.work)) (request_of self.old.live op) }
         ensures live { self.new.live ≡ without self.old.live op }

@@ -11,7 +11,7 @@ pub enum Selector {
     Old,
     /// The tablet's list and the pending replica behind it.
     Both,
-    /// The tablet's list with the pending replica in the leaving one's place.
+    /// The tablet's list once the leaving replica has given its place to the pending one.
     New,
 }
 

@@ -63,6 +63,7 @@ served_chunk cells ask = chunk_of ask (range_cells cells ask.table ask.range ask
 
 -- ---- taking chunks
 
+-- the same token in both, or none in both
 abbrev pub same_after : Option Token → Option Token → Bool
 same_after None None = true
 same_after (Some a) (Some b) = int_eq a.value b.value

@@ -41,7 +41,7 @@ use Rattle.stage_graph.specs.declared.stage.Stage.TheVariants.{Streaming}
 use Rattle.stage_graph.specs.declared.table.Selector.TheVariants.{New}
 use Rattle.tablet_map.specs.declared.tablet.Tablet.{Tablet}
 use Rattle.tablet_map.specs.declared.tablet.Transition.{Transition}
-use Rattle.topo_state.specs.Lists.{chosen, is_both, stage_in, writes_both, writes_of}
+use Rattle.topo_state.specs.Lists.{chosen_list, is_both, stage_in, writes_both, writes_of}
 use Rattle.topo_state.specs.State.{Topology}
 use Rattle.topo_state.specs.Views.{view}
 use Rattle.topo_state.specs.declared.command.Command.{Command}
@@ -111,17 +111,17 @@ module _ (opening : Opening) (history : History) (valid : IsValidOpening opening
 
   -- by the tablet that the write went by, where a quorum of its targets is one of the new list now
   by_quorum :
-      (old written : Tablet) → KeepsQuorum old tablet written → Matters old tablet written (chosen New tablet) → ((host : HostId) → is_cleanable_host tablet host ≡ false) →
+      (old written : Tablet) → KeepsQuorum old tablet written → Matters old tablet written (chosen_list New tablet) → ((host : HostId) → is_cleanable_host tablet host ≡ false) →
       request.targets ≡ writes_of written → request.need ≡ base_need (length written.replicas) + extra (writes (stage_in written)) → tablet.replicas ≡ written.replicas →
-      base_of request tablet ≤ covered_count opening history key cell (chosen New tablet)
+      base_of request tablet ≤ covered_count opening history key cell (chosen_list New tablet)
   by_quorum old written keeps matters spared targets need same =
       let told : request.need ≤ count_by said (writes_of written) = subst (λ replicas. request.need ≤ count_by said replicas) targets enough in
       let base : base_of request tablet ≡ base_need (length written.replicas) = ap (λ replicas. base_need (length replicas)) same in
-      let quorum = keeps (chosen New tablet) matters said (base_of request tablet) (omega (arith, told, need, base)) in
+      let quorum = keeps (chosen_list New tablet) matters said (base_of request tablet) (omega (arith, told, need, base)) in
       let more = count_more (λ (replica : Replica). said replica && not (is_cleanable_host tablet replica.host)) (holds opening history key cell)
       (λ replica h.
       kept lane op request key cell tablet replica write recent streaming.seen (both_true (said replica) (not (is_cleanable_host tablet replica.host)) h).0 (spared replica.host))
-      (chosen New tablet) in
+      (chosen_list New tablet) in
       omega (arith, quorum, more)
 
   abbrev first : Topology
@@ -163,7 +163,7 @@ module _ (opening : Opening) (history : History) (valid : IsValidOpening opening
   need : request.need ≡ base_need (length route.tablet.replicas) + extra (writes (stage_in route.tablet))
   need = route.need ∙ ap (λ (o : Operation). needed (kind_of o) (length route.tablet.replicas) (stage_in route.tablet)) write.writes
 
-  at_last_version : request.version.0 ≡ last_version opening history → base_of request tablet ≤ covered_count opening history key cell (chosen New tablet)
+  at_last_version : request.version.0 ≡ last_version opening history → base_of request tablet ≤ covered_count opening history key cell (chosen_list New tablet)
   at_last_version same =
       let is : route.tablet ≡ tablet =
       some_tablet route.tablet tablet (sym seen_then ∙ ap (λ (v : ℕ). view_with first log v key.table key.token.value) same ∙ seen_last) in
@@ -171,7 +171,7 @@ module _ (opening : Opening) (history : History) (valid : IsValidOpening opening
       by_quorum tablet tablet pair.kept_now (NewList both both) (pair.spares.both both) (targets ∙ ap writes_of is)
       (need ∙ ap (λ (t : Tablet). base_need (length t.replicas) + extra (writes (stage_in t))) is) refl
 
-  one_before : request.version.0 + 1 ≡ last_version opening history → base_of request tablet ≤ covered_count opening history key cell (chosen New tablet)
+  one_before : request.version.0 + 1 ≡ last_version opening history → base_of request tablet ≤ covered_count opening history key cell (chosen_list New tablet)
   one_before same =
       let seen_now : view_with first log (request.version.0 + 1) key.table key.token.value ≡ Some tablet =
       ap (λ (v : ℕ). view_with first log v key.table key.token.value) same ∙ seen_last in
@@ -180,7 +180,7 @@ module _ (opening : Opening) (history : History) (valid : IsValidOpening opening
       let both_then : writes_both route.tablet ≡ true = pair.both.streams at in
       by_quorum route.tablet route.tablet pair.kept_before (NewList both both_then) (pair.spares.both both) targets need (pair.both.same_list both both_then)
 
-  pub covered_in_new : base_of request tablet ≤ covered_count opening history key cell (chosen New tablet)
+  pub covered_in_new : base_of request tablet ≤ covered_count opening history key cell (chosen_list New tablet)
   covered_in_new =
       let known : request.version.0 ≤ last_version opening history = with_below first log request.version.0 route.state route.found in
       elim (cases_lt request.version.0 (last_version opening history)) [

@@ -4,7 +4,7 @@ use Rattle.std.proofs.lemmas.List.Sums.{sum_by-cons}
 use Rattle.std.specs.List.{count_by, list_all}
 use Rattle.base_ids.specs.declared.ids.Replica.{Replica}
 use Rattle.base_ids.specs.Replicas.{same_replica, has_replica, has_host, on_distinct_hosts}
-use Rattle.tablet_map.specs.Replicas.{replaced, same_set}
+use Rattle.tablet_map.specs.Replicas.{replaced_list, same_set}
 use Rattle.tablet_map.proofs.Joined.{and_left, and_right, or_first, or_second, not_true, is_false}
 use Rattle.tablet_map.proofs.Members.{same_is, is_same, all_of, host_of}
 
@@ -21,15 +21,15 @@ count_behind test (r ∷ rest) pending =
     omega (arith, count_behind test rest pending, count_first test r (rest ++ pending ∷ []), count_first test r rest)
 
 -- one in another's place
-pub count_replaced : (test : Replica → Bool) (leaving pending : Replica) (replicas : List Replica) → has_replica replicas leaving ≡ true → count_by test (replaced leaving pending replicas) + one_if (test leaving) ≡ count_by test replicas + one_if (test pending)
+pub count_replaced : (test : Replica → Bool) (leaving pending : Replica) (replicas : List Replica) → has_replica replicas leaving ≡ true → count_by test (replaced_list leaving pending replicas) + one_if (test leaving) ≡ count_by test replicas + one_if (test pending)
 count_replaced test leaving pending [] in_it = cc in_it
 count_replaced test leaving pending (r ∷ rest) in_it =
-    elim (same_replica leaving r) as (λ v. same_replica leaving r ≡ v → (v || has_replica rest leaving) ≡ true → count_by test (cond v (pending ∷ rest) (r ∷ replaced leaving pending rest)) + one_if (test leaving) ≡ count_by test (r ∷ rest) + one_if (test pending)) [
+    elim (same_replica leaving r) as (λ v. same_replica leaving r ≡ v → (v || has_replica rest leaving) ≡ true → count_by test (cond v (pending ∷ rest) (r ∷ replaced_list leaving pending rest)) + one_if (test leaving) ≡ count_by test (r ∷ rest) + one_if (test pending)) [
       | true ↦ λ e h.
           let same : one_if (test leaving) ≡ one_if (test r) = ap (λ x. one_if (test x)) (same_is leaving r e) in
           omega (arith, same, count_first test pending rest, count_first test r rest)
       | false ↦ λ e h.
-          omega (arith, count_replaced test leaving pending rest h, count_first test r (replaced leaving pending rest), count_first test r rest)
+          omega (arith, count_replaced test leaving pending rest h, count_first test r (replaced_list leaving pending rest), count_first test r rest)
     ] refl in_it
 
 -- the list without the first one that is this replica

@@ -11,7 +11,7 @@ use Rattle.tablet_map.specs.declared.errors.SplitError.{SplitError}
 use Rattle.tablet_map.specs.declared.errors.SplitError.TheVariants.{Moving as SplitMoving, NoMemory}
 use Rattle.tablet_map.specs.declared.errors.MergeError.{MergeError}
 use Rattle.tablet_map.specs.declared.errors.MergeError.TheVariants.{Moving as MergeMoving, NotColocated}
-use Rattle.tablet_map.specs.Replicas.{replaced, same_set}
+use Rattle.tablet_map.specs.Replicas.{replaced_list, same_set}
 use Rattle.tablet_map.specs.Tablets.{Tablets, is_moving}
 
 -- a tablet with these replicas that does not move
@@ -27,8 +27,8 @@ abbrev pub with_tablet : Tablets → ℕ → Tablet → Tablets
 with_tablet tablets at tablet = record tablets { list = slice_set tablets.list at tablet }
 
 -- what a start, a stage, a finish and a revert make of a tablet
-abbrev pub started : Tablet → Replica → Replica → Session → Tablet
-started tablet leaving pending session =
+abbrev pub started_tablet : Tablet → Replica → Replica → Session → Tablet
+started_tablet tablet leaving pending session =
     record tablet {
       transition = Some (record {
         stage = AllowWriteBothReadOld;
@@ -38,18 +38,18 @@ started tablet leaving pending session =
       });
     }
 
-abbrev pub staged : Tablet → Stage → Tablet
-staged tablet stage = record tablet {
+abbrev pub staged_tablet : Tablet → Stage → Tablet
+staged_tablet tablet stage = record tablet {
   transition = option_map (λ (t : Transition).
       record t { stage = stage }) tablet.transition;
 }
 
-abbrev pub finished : Tablet → Tablet
-finished tablet =
-    elim tablet.transition [ None ↦ tablet | Some t ↦ at_rest (replaced t.leaving t.pending tablet.replicas) ]
+abbrev pub finished_tablet : Tablet → Tablet
+finished_tablet tablet =
+    elim tablet.transition [ None ↦ tablet | Some t ↦ at_rest (replaced_list t.leaving t.pending tablet.replicas) ]
 
-abbrev pub reverted : Tablet → Tablet
-reverted tablet = at_rest tablet.replicas
+abbrev pub reverted_tablet : Tablet → Tablet
+reverted_tablet tablet = at_rest tablet.replicas
 
 -- the least tablet in transition
 abbrev pub least_moving : List Tablet → Option ℕ

@@ -15,11 +15,11 @@ pub record CanMove (replicas : List Replica) (leaving : Replica) (pending : Repl
   pub leaves : IsTrue (has_replica replicas leaving)
   pub comes : IsTrue (not (has_host replicas pending.host))
 
--- the list with the pending replica in the leaving one's place
-abbrev pub replaced : Replica → Replica → List Replica → List Replica
-replaced leaving pending [] = []
-replaced leaving pending (replica ∷ rest) =
-    if same_replica leaving replica then pending ∷ rest else replica ∷ replaced leaving pending rest
+-- the list in which the pending replica replaces the leaving one, where that stood
+abbrev pub replaced_list : Replica → Replica → List Replica → List Replica
+replaced_list leaving pending [] = []
+replaced_list leaving pending (replica ∷ rest) =
+    if same_replica leaving replica then pending ∷ rest else replica ∷ replaced_list leaving pending rest
 
 -- the same replicas, in whatever order
 abbrev pub same_set : List Replica → List Replica → Bool

@@ -9,7 +9,7 @@ ghost use Rattle.base_ids.specs.Replicas.{has_replica, has_host, on_distinct_hos
 ghost use Rattle.tablet_map.specs.Replicas.{hosts_below, same_set};
 ghost use Rattle.tablet_map.specs.Tablets.{Tablets, IsMap};
 ghost use Rattle.tablet_map.specs.Calls.{least_moving, least_apart, split_of, merge_of, MergeEnds};
-ghost use Rattle.tablet_map.specs.Sets.{replicas_at, selected};
+ghost use Rattle.tablet_map.specs.Sets.{replicas_at, selected_list};
 
 /// After a split a merge is not refused, and the map is the one before both.
 pub fn law_split_then_merge()
@@ -50,10 +50,10 @@ pub fn law_counts_are_of_hosts()
 /// with it in the leaving one's place.
 pub fn law_counts_in_transition()
     ensures both { (test : Replica → Bool) (replicas : List Replica)
-        (t : Transition) → count_by test (selected Both replicas t) ≡
-        count_by test (selected Old replicas t) + (if test t.pending then 1 else 0) }
+        (t : Transition) → count_by test (selected_list Both replicas t) ≡
+        count_by test (selected_list Old replicas t) + (if test t.pending then 1 else 0) }
     ensures new { (test : Replica → Bool) (replicas : List Replica)
         (t : Transition) → IsTrue (has_replica replicas t.leaving) →
-        count_by test (selected New replicas t) + (if test t.leaving then 1 else 0) ≡
-        count_by test (selected Old replicas t) + (if test t.pending then 1 else 0) }
+        count_by test (selected_list New replicas t) + (if test t.leaving then 1 else 0) ≡
+        count_by test (selected_list Old replicas t) + (if test t.pending then 1 else 0) }
 {}

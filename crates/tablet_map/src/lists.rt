@@ -2,7 +2,7 @@
 ghost use Rattle.std.specs.Prelude.{◌≡◌, ◌≤◌, ◌<◌, length, IfOk, map, option_map, position, replicate, take, ◌/◌, ◌*◌, ◌+◌, IfSome};
 ghost use Rattle.std.specs.List.{flat_map, list_all};
 ghost use Rattle.base_ids.specs.Replicas.{same_replica, has_replica};
-ghost use Rattle.tablet_map.specs.Replicas.{replaced, same_set};
+ghost use Rattle.tablet_map.specs.Replicas.{replaced_list, same_set};
 ghost use Rattle.tablet_map.specs.Tablets.{tablet_in, has_session};
 ghost use Rattle.tablet_map.specs.Calls.{at_rest, both, pairs, least_moving, least_apart};
 
@@ -44,7 +44,7 @@ fn is_same(a: Replica, b: Replica) -> bool
 
 /// Puts the pending replica into the leaving one's place.
 pub(crate) fn replace(replicas: &mut ReplicaList, leaving: Replica, pending: Replica)
-    ensures { replicas.new ≡ replaced leaving pending replicas.old }
+    ensures { replicas.new ≡ replaced_list leaving pending replicas.old }
 {
     if let Some(at) = place_of_replica(replicas.as_slice(), leaving) {
         replicas.replace(at, pending);

@@ -1,7 +1,7 @@
 ghost use Rattle.std.specs.Prelude.{◌≡◌, ◌^◌, ◌≤◌, ◌<◌, length, IfOk, OnOk, OnErr, None, IsSome, option_copied, option_map, position, IsTrue, is_some, not};
 ghost use Rattle.tablet_map.specs.Replicas.{IsReplicaSet, CanMove};
 ghost use Rattle.tablet_map.specs.Tablets.{tablet_in, is_moving, has_session, IsMap};
-ghost use Rattle.tablet_map.specs.Calls.{new_tablets, with_tablet, at_rest, started, staged, finished, reverted, least_moving, least_apart, SplitEnds, MergeEnds};
+ghost use Rattle.tablet_map.specs.Calls.{new_tablets, with_tablet, at_rest, started_tablet, staged_tablet, finished_tablet, reverted_tablet, least_moving, least_apart, SplitEnds, MergeEnds};
 
 use crate::errors::{MergeError, SplitError};
 use crate::lists::{
@@ -132,7 +132,7 @@ impl TabletMap {
         requires rests { (tablet_in self.old.list tablet.0).transition ≡ None }
         requires moves { CanMove (tablet_in self.old.list tablet.0).replicas leaving pending }
         ensures { self.new ≡
-            with_tablet self.old tablet.0 (started (tablet_in self.old.list tablet.0) leaving pending session) }
+            with_tablet self.old tablet.0 (started_tablet (tablet_in self.old.list tablet.0) leaving pending session) }
     {
         self.tablets[tablet.0 as usize].start(leaving, pending, session);
     }
@@ -141,16 +141,16 @@ impl TabletMap {
     pub fn set_stage(&mut self, tablet: TabletId, stage: Stage)
         requires within { tablet.0 < length self.old.list }
         requires moves { IsSome (tablet_in self.old.list tablet.0).transition }
-        ensures { self.new ≡ with_tablet self.old tablet.0 (staged (tablet_in self.old.list tablet.0) stage) }
+        ensures { self.new ≡ with_tablet self.old tablet.0 (staged_tablet (tablet_in self.old.list tablet.0) stage) }
     {
         self.tablets[tablet.0 as usize].set_stage(stage);
     }
 
-    /// Ends the transition of a tablet with the pending replica in the leaving one's place.
+    /// Ends the transition of a tablet: in its list the leaving replica gives its place to the pending one.
     pub fn finish(&mut self, tablet: TabletId)
         requires within { tablet.0 < length self.old.list }
         requires moves { IsSome (tablet_in self.old.list tablet.0).transition }
-        ensures { self.new ≡ with_tablet self.old tablet.0 (finished (tablet_in self.old.list tablet.0)) }
+        ensures { self.new ≡ with_tablet self.old tablet.0 (finished_tablet (tablet_in self.old.list tablet.0)) }
     {
         self.tablets[tablet.0 as usize].finish();
     }
@@ -159,7 +159,7 @@ impl TabletMap {
     pub fn revert(&mut self, tablet: TabletId)
         requires within { tablet.0 < length self.old.list }
         requires moves { IsSome (tablet_in self.old.list tablet.0).transition }
-        ensures { self.new ≡ with_tablet self.old tablet.0 (reverted (tablet_in self.old.list tablet.0)) }
+        ensures { self.new ≡ with_tablet self.old tablet.0 (reverted_tablet (tablet_in self.old.list tablet.0)) }
     {
         self.tablets[tablet.0 as usize].revert();
     }

@@ -19,15 +19,17 @@ pub struct Transition {
 /// A tablet: its replicas in order, and the move of one of them, where there is one.
 #[derive(Debug, Drop)]
 pub struct Tablet {
+    /// The replicas, in their order.
     pub replicas: ReplicaList,
+    /// The move; `None` where the tablet does not move.
     pub transition: Option<Transition>,
 }
 
 impl Tablet {
     ghost use Rattle.std.specs.Prelude.{◌≡◌, ◌≤◌, length, IfOk};
-    ghost use Rattle.tablet_map.specs.Replicas.{replaced};
+    ghost use Rattle.tablet_map.specs.Replicas.{replaced_list};
     ghost use Rattle.tablet_map.specs.Tablets.{is_moving, has_session};
-    ghost use Rattle.tablet_map.specs.Calls.{at_rest, started, staged, finished, reverted};
+    ghost use Rattle.tablet_map.specs.Calls.{at_rest, started_tablet, staged_tablet, finished_tablet, reverted_tablet};
 
     /// A tablet with these replicas that does not move.
     pub(crate) fn at_rest(alloc: Global, replicas: &[Replica]) -> Result<Tablet, NoMemory>
@@ -68,7 +70,7 @@ impl Tablet {
     }
 
     pub(crate) fn start(&mut self, leaving: Replica, pending: Replica, session: Session)
-        ensures { self.new ≡ started self.old leaving pending session }
+        ensures { self.new ≡ started_tablet self.old leaving pending session }
     {
         self.transition = Some(Transition {
             stage: Stage::AllowWriteBothReadOld,
@@ -79,7 +81,7 @@ impl Tablet {
     }
 
     pub(crate) fn set_stage(&mut self, stage: Stage)
-        ensures { self.new ≡ staged self.old stage }
+        ensures { self.new ≡ staged_tablet self.old stage }
     {
         if let Some(transition) = &mut self.transition {
             transition.stage = stage;
@@ -87,7 +89,7 @@ impl Tablet {
     }
 
     pub(crate) fn finish(&mut self)
-        ensures { self.new ≡ finished self.old }
+        ensures { self.new ≡ finished_tablet self.old }
     {
         if let Some(transition) = self.transition {
             replace(&mut self.replicas, transition.leaving, transition.pending);
@@ -96,7 +98,7 @@ impl Tablet {
     }
 
     pub(crate) fn revert(&mut self)
-        ensures { self.new ≡ reverted self.old }
+        ensures { self.new ≡ reverted_tablet self.old }
     {
         self.transition = None;
     }

@@ -10,12 +10,15 @@ use Rattle.token_ring.specs.declared.token.Token.{Token}
 abbrev pub IsIn : TokenRange → Token → Type 0
 IsIn range token = (range.first.value ≤ℤ token.value) × (token.value ≤ℤ range.last.value)
 
+-- the number is above -2^63
 abbrev pub above_least : ℤ → Bool
 above_least value = int_lt least_number value
 
+-- the number is below 2^63
 abbrev pub below_end : ℤ → Bool
 below_end value = int_lt value (pos (2 ^ 63))
 
+-- the token of a number by these two tests: that of 0 where one fails
 abbrev pub token_by : (value : ℤ) (above below : Bool) → above_least value ≡ above → below_end value ≡ below → Token
 token_by value true true above below =
     record { value = value; is_token = (lt_z_yes (subst T (sym above) tt), lt_z_yes (subst T (sym below) tt)) }

@@ -26,10 +26,11 @@ width log2 = 2 ^ (64 - log2)
 abbrev pub tablet_at : ℕ → ℤ → ℕ
 tablet_at log2 token = place token / width log2
 
--- the first and the last place of a tablet that are places of tokens; place 0 is no token's
+-- the first place of a tablet that is a token's: place 0 is none
 abbrev pub first_place : ℕ → ℕ → ℕ
 first_place log2 tablet = max 1 (tablet * width log2)
 
+-- the last place of a tablet
 abbrev pub last_place : ℕ → ℕ → ℕ
 last_place log2 tablet = (tablet + 1) * width log2 - 1
 

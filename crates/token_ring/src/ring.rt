@@ -12,12 +12,14 @@ pub struct TabletId(pub u32);
 /// The tokens from `first` to `last`, both included.
 #[derive(Clone, Copy, Debug, PartialEq, Eq)]
 pub struct TokenRange {
+    /// The least token of the range.
     pub first: Token,
+    /// The greatest token of the range.
     pub last: Token,
 }
 
 /// The tablet of a token where the ring is divided into `2^log2` tablets.
-/// Source: ScyllaDB's tablet map, for powers of two.
+/// Source: how ScyllaDB's tablet map finds a tablet, with powers of two.
 pub fn tablet_of(log2: u8, token: Token) -> TabletId
     requires { log2 ≤ 10 }
     ensures tablet { result.0 ≡ tablet_at log2 token.value }

@@ -10,13 +10,15 @@ use Rattle.topo_state.specs.State.{Topology, is_member, is_known}
 use Rattle.topo_state.specs.Tables.{every_tablet}
 use Rattle.topo_state.specs.Sound.{IsTopology}
 
--- a tablet does not move; a table has no decision; a tablet's replicas exist
+-- the tablet does not move
 abbrev pub is_still : Tablet → Bool
 is_still tablet = not (is_moving tablet)
 
+-- no split or merge of the table is decided
 abbrev pub is_undecided : Table → Bool
 is_undecided table = is_none table.resize
 
+-- the hosts and shards of the tablet's replicas exist
 abbrev pub has_known_replicas : Topology → Tablet → Bool
 has_known_replicas state tablet = list_all (is_known state) tablet.replicas
 

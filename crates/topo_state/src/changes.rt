@@ -6,7 +6,7 @@ ghost use Rattle.tablet_map.specs.Tablets.{tablet_in};
 ghost use Rattle.tablet_map.specs.Calls.{least_moving};
 ghost use Rattle.topo_state.specs.declared.data.Table.{Table};
 ghost use Rattle.topo_state.specs.Tables.{has_id, table_in};
-ghost use Rattle.topo_state.specs.After.{after_start, after_resize, after_finalize, resized, resize_decision, is_other, members_after, tables_after};
+ghost use Rattle.topo_state.specs.After.{after_start, after_resize, after_finalize, resized_tablets, resize_decision, is_other, members_after, tables_after};
 ghost use Rattle.topo_state.specs.Rules.{is_bad_resize, is_apart_for};
 ghost use Rattle.topo_state.specs.Changes.{IsChange};
 
@@ -120,7 +120,7 @@ fn carry_out(alloc: Global, map: &mut TabletMap, resize: Option<Resize>) -> Resu
     requires fits { IfSome resize (λ resize_decision. is_bad_resize resize_decision.kind map.old.log2 ≡ false) }
     requires rests { least_moving map.old.list ≡ None }
     requires pairs { is_apart_for resize map.old.list ≡ false }
-    ensures ok { OnOk result (map.new ≡ resized resize map.old) }
+    ensures ok { OnOk result (map.new ≡ resized_tablets resize map.old) }
     ensures err { OnErr result (map.new ≡ map.old) }
 {
     let Some(decision) = resize else {

@@ -216,7 +216,7 @@ fn finalize_rule(state: &TopoState, id: TableId, seq: Session) -> Option<Rule>
     None
 }
 
-/// The first rule that the command breaks.
+/// Which rule the command breaks first, or none.
 pub(crate) fn first_broken(state: &TopoState, command: &Command) -> Option<Rule>
     requires { IsFit command.now }
     ensures { result ≡ rule state.now command.now }

@@ -93,7 +93,7 @@ pub(crate) fn every_may_go(tables: &[Table], session: Session, to: Option<Stage>
     tables.iter().all(|table| table_may_go(table, session, to))
 }
 
-/// Whether a tablet has a replica or a pending replica on the host.
+/// Whether the tablet's list names the host, or its pending replica is there.
 fn uses_host(tablet: &Tablet, host: HostId) -> bool
     ensures { result ≡ uses_host host tablet.now }
 {
