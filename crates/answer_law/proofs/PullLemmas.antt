@@ -74,7 +74,7 @@ after_chunk history host session pull chunk was =
       | false ↦ was
     ]
 
-either : {X : Type 0} (a b : Option X) (x : X) → option_or a b ≡ Some x → (a ≡ Some x) ⊎ (b ≡ Some x)
+pub either : {X : Type 0} (a b : Option X) (x : X) → option_or a b ≡ Some x → (a ≡ Some x) ⊎ (b ≡ Some x)
 either None b x e = inr e
 either (Some a) b x e = inl e
 

@@ -20,6 +20,8 @@ use Rattle.cluster_history.specs.declared.data.Message.TheVariants.{Answer as An
 use Rattle.cluster_history.specs.declared.data.Opening.{Opening}
 use Rattle.cluster_history.specs.declared.data.Operation.TheVariants.{Read as ReadOf, Write as WriteOf}
 use Rattle.history_facts.proofs.EntryLemmas.{next_at}
+use Rattle.history_facts.proofs.ReplyLemmas.{Decides, Replies}
+use Rattle.history_facts.proofs.ReplyLemmas.Replies.{replies_at_once, replies_decided, replies_given_up}
 use Rattle.history_facts.specs.Prefixes.{history_before}
 use Rattle.quorum_ops.specs.Decision.{answered_count, first_said, greatest_told, has_answered, refused_count, said_cell, says_data}
 use Rattle.quorum_ops.specs.declared.data.Answer.{Answer}
@@ -33,8 +35,7 @@ use Rattle.token_ring.specs.declared.token.Token.{Token}
 use Rattle.answer_law.proofs.BegunAtLemmas.{IsBegunBy, begun_at-inside, begun_earlier, begun_operation, request_entry}
 use Rattle.answer_law.proofs.DecisionLemmas.{IsReadOf, IsWriteOf, decided, is_read, is_write, ok_reply, read_reply}
 use Rattle.answer_law.proofs.PrefixLemmas.{request_at-since}
-use Rattle.answer_law.proofs.ReplyLemmas.{Decides, Replies, told_replies}
-use Rattle.answer_law.proofs.ReplyLemmas.Replies.{replies_at_once, replies_decided, replies_given_up}
+use Rattle.answer_law.proofs.ToldLemmas.{told_replies}
 use Rattle.answer_law.proofs.ServedLemmas.{answers_were_served}
 use Rattle.answer_law.proofs.TakenLemmas.{IsSaidFirst, said_first, some_same}
 use Rattle.answer_law.proofs.TellLemmas.{decides_sent}
@@ -175,7 +176,7 @@ no_read_away : (reply : Reply) (cell : Option Cell) → IsTurnedAway reply → r
 no_read_away reply cell (HasNoTable is) e = let wrong : NoTable ≡ Read cell = sym is ∙ e in cc wrong
 no_read_away reply cell (IsNoMember is) e = let wrong : NotMember ≡ Read cell = sym is ∙ e in cc wrong
 
-no_ok_away : (reply : Reply) → IsTurnedAway reply → reply ≡ Ok → ⊥
+pub no_ok_away : (reply : Reply) → IsTurnedAway reply → reply ≡ Ok → ⊥
 no_ok_away reply (HasNoTable is) e = let wrong : NoTable ≡ Ok = sym is ∙ e in cc wrong
 no_ok_away reply (IsNoMember is) e = let wrong : NotMember ≡ Ok = sym is ∙ e in cc wrong
 

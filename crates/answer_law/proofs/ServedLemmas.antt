@@ -36,6 +36,7 @@ use Rattle.answer_law.proofs.PrefixLemmas.{kept_since, request_at-since, sent_by
 use Rattle.answer_law.proofs.StoredLemmas.{held-served}
 use Rattle.answer_law.specs.Laws.{AnswersWereServed, RefusalsAreBelowFences}
 use Rattle.answer_law.specs.Served.{IsServedAt, IsTrueOf}
+use Rattle.barrier_law.proofs.LateLemmas.{answer_same}
 
 -- ---- by the event
 
@@ -119,9 +120,6 @@ found opening history at ask legal sent =
             held = ap (held_cell opening history ask.to.host) (ap key_of (sym asked.operation_is));
           });
     }
-
-answer_same : (a b : Answer) → AnswerSent a ≡ AnswerSent b → a ≡ b
-answer_same a b e = cc e
 
 pub served_by :
     (opening : Opening) (history : History) (event : Event) (message : Message) (answer : Answer) → IsLegalHistory opening history →

@@ -22,6 +22,8 @@ use Rattle.cluster_history.specs.declared.data.Opening.{Opening}
 use Rattle.history_facts.proofs.BegunLemmas.{request_at-later}
 use Rattle.history_facts.proofs.EntryLemmas.{next_at}
 use Rattle.history_facts.proofs.NameLemmas.{and_true, same_lane-refl, same_op-refl}
+use Rattle.history_facts.proofs.ReplyLemmas.{Decides, Replies}
+use Rattle.history_facts.proofs.ReplyLemmas.Replies.{replies_at_once, replies_decided, replies_given_up}
 use Rattle.history_facts.specs.Prefixes.{history_before}
 use Rattle.quorum_ops.specs.Decision.{answered_count, first_said, greatest_told, refused_count, timeout_reply}
 use Rattle.quorum_ops.specs.declared.data.Answer.{Answer}
@@ -31,8 +33,7 @@ use Rattle.quorum_ops.specs.declared.data.Said.TheVariants.{Stale as Refused}
 use Rattle.stage_graph.specs.declared.kind.Kind.{Kind}
 use Rattle.answer_law.proofs.DecisionLemmas.{decided, no_stale, no_timeout}
 use Rattle.answer_law.proofs.PrefixLemmas.{message-later, message_in, request_at-since}
-use Rattle.answer_law.proofs.ReplyLemmas.{Decides, Replies, told_replies}
-use Rattle.answer_law.proofs.ReplyLemmas.Replies.{replies_at_once, replies_decided, replies_given_up}
+use Rattle.answer_law.proofs.ToldLemmas.{told_replies}
 use Rattle.answer_law.proofs.ServedLemmas.{answers_were_served, fence_of-since}
 use Rattle.answer_law.proofs.TakenLemmas.{IsSaidFirst, answers_sent, said_first, some_same}
 use Rattle.answer_law.proofs.UndecidedLemmas.{IsNewest, hopeful, newest_refusal, unanswered}

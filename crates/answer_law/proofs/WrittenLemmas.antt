@@ -142,7 +142,8 @@ served_of_table opening history host at ask valid legal held starts =
           (λ token cell e. held host (key_at ask.table token) cell (sym (cell_at-held_cells opening history host (key_at ask.table token)) ∙ e)));
     }
 
-chunk_same : (a b : ChunkMsg) → ChunkSent a ≡ ChunkSent b → a ≡ b
+-- what a message has sent is one chunk
+pub chunk_same : (a b : ChunkMsg) → ChunkSent a ≡ ChunkSent b → a ≡ b
 chunk_same a b e = cc e
 
 chunk_by :

@@ -1,8 +1,8 @@
 -- Requests that come late are refused.
 use Rattle.std.proofs.Common.{ap, arith, refl, subst, sym, ◌∙◌}
 use Rattle.std.proofs.lemmas.Bool.Decides.{nat_tests}
-use Rattle.std.specs.Prelude.{List, Some, [], false, if◌then◌else◌, nat_lt, true, ◌+◌, ◌<◌, ◌==◌, ◌||◌, ◌∷◌, ◌≡◌, ◌≤◌}
-use Rattle.base_ids.specs.Replicas.{has_host, has_replica, is_on, same_replica}
+use Rattle.std.specs.Prelude.{Some, [], if◌then◌else◌, nat_lt, true, ◌+◌, ◌<◌, ◌==◌, ◌||◌, ◌∷◌, ◌≡◌, ◌≤◌}
+use Rattle.base_ids.specs.Replicas.{has_host, has_replica}
 use Rattle.base_ids.specs.declared.ids.HostId.{HostId}
 use Rattle.base_ids.specs.declared.ids.LaneId.{LaneId}
 use Rattle.base_ids.specs.declared.ids.OpId.{OpId}
@@ -24,7 +24,7 @@ use Rattle.cluster_history.specs.declared.data.Opening.{Opening}
 use Rattle.cluster_history.specs.declared.data.Operation.{Operation}
 use Rattle.cluster_history.specs.declared.data.Operation.TheVariants.{Read as ReadOf, Write as WriteOf}
 use Rattle.history_facts.proofs.HostLemmas.{log_legal}
-use Rattle.history_facts.proofs.NameLemmas.{both_true, or_first, or_second}
+use Rattle.history_facts.proofs.NameLemmas.{or_first}
 use Rattle.history_facts.proofs.RouteLemmas.{held_back, routed}
 use Rattle.history_facts.proofs.SentLemmas.{Sends, sends}
 use Rattle.history_facts.proofs.SentLemmas.Sends.{sends_ask, sends_chunk, sends_chunk_ask, sends_cleaned, sends_fact, sends_found, sends_not_mine, sends_question, sends_written}
@@ -43,16 +43,9 @@ use Rattle.barrier_law.proofs.AskedLemmas.{IsAsked, ask_fact}
 use Rattle.barrier_law.proofs.BarrierLemmas.{barrier}
 use Rattle.barrier_law.specs.Laws.{AreAtLeast, IsRefusal, LateRequestsAreRefused, is_in_either, next_version}
 use Rattle.barrier_law.specs.Laws.AreAtLeast.{ByFences, ByFloors}
+use Rattle.tablet_map.proofs.Members.{host_of}
 
 -- a target of a request is on a member of the state that it went by
-host_of : (replicas : List Replica) (to : Replica) → has_replica replicas to ≡ true → has_host replicas to.host ≡ true
-host_of [] to e = cc e
-host_of (replica ∷ replicas) to e =
-    (elim (same_replica to replica) as (λ b. same_replica to replica ≡ b → (b || has_replica replicas to) ≡ true → (is_on to.host replica || has_host replicas to.host) ≡ true) [
-      | true ↦ λ same f. or_first (is_on to.host replica) (has_host replicas to.host) (both_true (to.host.0 == replica.host.0) (to.shard.0 == replica.shard.0) same).0
-      | false ↦ λ same f. or_second (is_on to.host replica) (has_host replicas to.host) (host_of replicas to f)
-    ]) refl e
-
 target_member :
     (opening : Opening) (history : History) (lane : LaneId) (request : Request) (to : Replica) →
     IsValidOpening opening → IsLegalHistory opening history → (routed : IsRouted opening history lane request) → has_replica request.targets to ≡ true →
@@ -101,7 +94,7 @@ refused_by version fence said below =
     let less : nat_lt version.0 fence.0 ≡ true = grind (arith, nat_tests) in
     record { fence = fence; is = ap (λ b. if b then Refused fence else said) less; above = below }
 
-answer_same : (a b : Answer) → AnswerSent a ≡ AnswerSent b → a ≡ b
+pub answer_same : (a b : Answer) → AnswerSent a ≡ AnswerSent b → a ≡ b
 answer_same a b e = cc e
 
 late_by :

@@ -34,6 +34,9 @@ pub struct TableId(pub u32);
 #[derive(Clone, Copy, Debug, PartialEq, Eq, PartialOrd, Ord, Hash)]
 pub struct Version(pub u64);
 
+/// The version of the topology at first.
+pub const FIRST_VERSION: Version = Version(1);
+
 /// The id of a state of group 0: the count of its accepted entries, where ScyllaDB uses time UUIDs.
 #[derive(Clone, Copy, Debug, PartialEq, Eq, PartialOrd, Ord, Hash)]
 pub struct StateId(pub u64);

@@ -1,7 +1,9 @@
 // The replicas of a tablet, in order.
-ghost use Rattle.std.specs.Prelude.{◌≡◌, ◌≤◌, ◌<◌, [], length, slice_set, IfOk, OnOk};
+ghost use Rattle.std.specs.Prelude.{◌≡◌, ◌≤◌, ◌<◌, [], length, position, slice_set, IfOk, OnOk};
+ghost use Rattle.base_ids.specs.Names.{same_host};
+ghost use Rattle.base_ids.specs.Replicas.{has_host, has_replica, is_on, same_replica};
 
-use crate::ids::Replica;
+use crate::ids::{HostId, Replica};
 use crate::memory::NoMemory;
 use std::alloc::Global;
 use std::marker::Model;
@@ -64,4 +66,50 @@ impl ReplicaList {
     {
         self.items[index] = replica;
     }
+}
+
+/// Whether two hosts are the same.
+pub fn is_same_host(a: HostId, b: HostId) -> bool
+    ensures { result ≡ same_host a b }
+{
+    a == b
+}
+
+/// Whether two replicas are one shard of one host.
+pub fn is_same_replica(a: Replica, b: Replica) -> bool
+    ensures { result ≡ same_replica a b }
+{
+    a == b
+}
+
+/// The first place of a replica in a list. `None` exactly where it is not there.
+pub fn place_of_replica(replicas: &[Replica], sought: Replica) -> Option<usize>
+    ensures { result ≡ position (same_replica sought) replicas.now }
+{
+    replicas
+        .iter()
+        .position(|replica| is_same_replica(sought, *replica))
+}
+
+/// Whether a replica is in a list.
+pub fn has_replica(replicas: &[Replica], sought: Replica) -> bool
+    ensures { result ≡ has_replica replicas.now sought }
+{
+    replicas
+        .iter()
+        .any(|replica| is_same_replica(sought, *replica))
+}
+
+/// Whether the replica is on the host.
+pub fn is_on(host: HostId, replica: Replica) -> bool
+    ensures { result ≡ is_on host replica }
+{
+    host == replica.host
+}
+
+/// Whether a replica of the list is on the host.
+pub fn has_host(replicas: &[Replica], host: HostId) -> bool
+    ensures { result ≡ has_host replicas.now host }
+{
+    replicas.iter().any(|replica| is_on(host, *replica))
 }

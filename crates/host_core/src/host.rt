@@ -9,7 +9,7 @@ use crate::data::{HostInput, HostOut, Made};
 use crate::pulls::PullTable;
 use crate::{effects, grouping, making};
 use barrier_core::What;
-use base_ids::{EventRule, HostId, NoMemory, Session, Version};
+use base_ids::{EventRule, FIRST_VERSION, HostId, NoMemory, Session, Version};
 use replica_core::serve_write;
 use replica_store::Store;
 use std::alloc::Global;
@@ -85,7 +85,7 @@ impl<S: Store> HostCore<S> {
             host,
             applied: 0,
             state: opening,
-            floor: Version(1),
+            floor: FIRST_VERSION,
             store,
             pulls: PullTable::new(alloc),
             made: None,

@@ -42,7 +42,7 @@ use Rattle.cell_merge.specs.declared.cell.Cell.{Cell}
 use Rattle.register_model.specs.declared.data.Key.{Key}
 use Rattle.cluster_history.proofs.FrameLemmas.{applied_count-other, floor_of-other, held_cells-other}
 use Rattle.cluster_history.proofs.HeldLemmas.{cell_at-held_cells}
-use Rattle.cluster_history.proofs.StayLemmas.{applied_state-other}
+use Rattle.cluster_history.proofs.StayLemmas.{applied_state-other, or_none}
 use Rattle.cluster_history.proofs.WithinLemmas.{applied_within}
 use Rattle.cluster_history.specs.Held.{chunk_in, cleaned_session, held_cell, held_cells, kept_cells, move_for, pull_of, pulled_cells, served_cells, with_cells}
 use Rattle.cluster_history.specs.History.{History, actor_of, is_by, message_at, message_of, output_at}
@@ -96,10 +96,6 @@ pub host_restarts : HostsRestart
 host_restarts opening history host = rw (same_host-refl host) refl
 
 -- ---- inputs
-
-or_none : {X : Type 0} (a b : Option X) → option_or a b ≡ None → a ≡ None
-or_none None b e = refl
-or_none (Some x) b e = cc e
 
 serve_has_input : (host : HostId) (message : Message) → is_for (ByHost host) is_request message ≡ true → IsSome (served_input (Some message))
 serve_has_input host (WriteSent ask) taken = refl

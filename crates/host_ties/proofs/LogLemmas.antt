@@ -2,24 +2,15 @@
 -- to the next one.
 use Rattle.std.proofs.Common.{arith, refl}
 use Rattle.std.proofs.lemmas.Bool.Decides.{nat_tests}
-use Rattle.std.specs.Prelude.{IsSome, List, None, Option, Some, [], false, if◌then◌else◌, length, nat_lt, option_map, true, ℕ, ◌+◌, ◌-◌, ◌<◌, ◌==◌, ◌^◌, ◌∷◌, ◌≡◌, ◌≤◌}
-use Rattle.base_ids.specs.declared.ids.Version.{Version}
+use Rattle.std.specs.Prelude.{IsSome, List, None, Some, [], false, if◌then◌else◌, length, nat_lt, option_map, true, ℕ, ◌+◌, ◌-◌, ◌<◌, ◌==◌, ◌^◌, ◌∷◌, ◌≡◌, ◌≤◌}
 use Rattle.base_ids.specs.declared.rules.EventRule.TheVariants.{NothingToApply}
 use Rattle.group0_log.specs.Log.{AreBelowEnd, command_at, state_of}
-use Rattle.topo_state.specs.After.{after, fence_set}
 use Rattle.topo_state.specs.State.{Topology}
 use Rattle.topo_state.specs.declared.command.Command.{Command}
+use Rattle.cluster_history.proofs.LogLemmas.{after_by_one}
 use Rattle.cluster_history.specs.Rules.{apply_rule}
 
--- a command raises the version by one at most
-pub after_by_one : (state : Topology) (command : Command) (index : ℕ) → (after state command index).version.0 ≤ state.version.0 + 1
-after_by_one state command index = by_fence (fence_set command) refl
-  where
-    by_fence : (set : Option Version) → fence_set command ≡ set → (after state command index).version.0 ≤ state.version.0 + 1
-    by_fence (Some version) e = rw (e, after) (omega arith)
-    by_fence None e = rw (e, after) (omega arith)
-
--- so the version is at most as many above the first one as there are commands
+-- the version is at most as many above the first one as there are commands
 pub version_by_length : (first : Topology) (log : List Command) → (state_of first log).version.0 ≤ first.version.0 + length log
 version_by_length first [] = omega arith
 version_by_length first (command ∷ log) =

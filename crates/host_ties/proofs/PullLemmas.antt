@@ -25,15 +25,12 @@ use Rattle.cluster_history.specs.declared.data.Output.{Output}
 use Rattle.history_facts.proofs.NameLemmas.{same_session-refl, same_session-same}
 use Rattle.host_ties.specs.HostRules.{HostPulls}
 use Rattle.host_ties.specs.HostTies.{pulls_after, pulls_begun, pulls_cleaned, pulls_of, pulls_taken}
+use Rattle.cluster_history.proofs.FrameLemmas.{one_way}
 
 -- what holds both ways holds
 both_ways : {X : Type 0} (P : X → Type 0) (b : Bool) (x y : X) → P x → P y → P (if b then x else y)
 both_ways P true x y first second = first
 both_ways P false x y first second = second
-
-one_way : {X : Type 0} (b : Bool) (x : X) → (if b then x else x) ≡ x
-one_way true x = refl
-one_way false x = refl
 
 -- ---- a list of pulls with one for each session at most
 

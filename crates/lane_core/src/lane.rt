@@ -251,7 +251,11 @@ impl LaneCore {
         ensures { self.new.core ≡ record self.old.core { live = live_with self.old.core.live op work } }
     {
         match work {
-            Some(work) => self.requests.replace(op, work),
+            Some(work) => {
+                if let Some(lent) = self.requests.get_mut(op) {
+                    *lent = work;
+                }
+            }
             None => {
                 self.requests.remove(op);
             }

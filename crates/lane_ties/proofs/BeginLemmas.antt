@@ -28,13 +28,14 @@ use Rattle.history_facts.proofs.LiveLemmas.{live_ops-begin}
 use Rattle.history_facts.proofs.NameLemmas.{same_lane-refl}
 use Rattle.lane_core.specs.Lane.{IsFor, LaneView, lane_after, lane_rule, most_requests, with_next}
 use Rattle.lane_core.specs.declared.work.Work.{Work}
-use Rattle.lane_ties.proofs.HistoryLemmas.{answers_kept, begun_within, kept_stays, member_begun, state_has_version}
+use Rattle.lane_ties.proofs.HistoryLemmas.{answers_kept, kept_stays, member_begun, state_has_version}
 use Rattle.lane_ties.proofs.LaneRules.{view_count}
 use Rattle.lane_ties.proofs.ListLemmas.{among_alike, among_append}
 use Rattle.lane_ties.proofs.WayLemmas.{begin_left, begin_sent, begun_request, begun_work}
 use Rattle.lane_ties.specs.LaneTies.{IsLanePlay, begin_input, kept_among, kept_by, kept_of, kept_with, lane_view, with_kept, work_by}
 use Rattle.request_table.specs.declared.Live.{Live}
 use Rattle.topo_state.specs.State.{Topology}
+use Rattle.history_facts.proofs.BegunLemmas.{begun_within}
 
 -- ---- which requests are live then
 

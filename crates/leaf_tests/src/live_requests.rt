@@ -5,13 +5,13 @@ use base_ids::{OpId, Version};
 use request_table::RequestTable;
 use std::test::Fail;
 
-// what a caller learns of a lent operation
-fn raise(table: &mut RequestTable<u8, u16>, op: OpId)
-    ensures live { IsSome (request_of table.old.live op) → table.new.live ≡ with_work table.old.live op 7 }
+// what a caller learns of lent work
+fn exchange(table: &mut RequestTable<u8, u16>, op: OpId, work: u16)
+    ensures live { IsSome (request_of table.old.live op) → table.new.live ≡ with_work table.old.live op work }
     ensures room { table.new.room ≡ table.old.room }
 {
-    if let Some(work) = table.get_mut(op) {
-        *work = 7;
+    if let Some(lent) = table.get_mut(op) {
+        *lent = work;
     }
 }
 
@@ -29,8 +29,8 @@ fn requests_live_in_the_order_of_their_begin(rt: HostRuntime) -> Result<(), Fail
     assert_eq!(rt; table.oldest_version(), Some(Version(2)));
     assert!(rt; table.live_below(Version(3)));
     assert!(rt; !table.live_below(Version(2)));
-    raise(&mut table, OpId(8));
-    table.replace(OpId(7), 11);
+    exchange(&mut table, OpId(8), 7);
+    exchange(&mut table, OpId(7), 11);
     assert!(rt; table.get(OpId(7)).is_some_and(|live| live.work == 11));
     assert!(rt; table.get(OpId(6)).is_none());
     assert_eq!(rt; table.get_mut(OpId(6)), None);

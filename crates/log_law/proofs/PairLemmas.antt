@@ -15,13 +15,14 @@ use Rattle.tablet_map.specs.declared.tablet.Tablet.{Tablet}
 use Rattle.tablet_map.specs.declared.tablet.Transition.{Transition}
 use Rattle.tablet_map.specs.Tablets.{IsSound}
 use Rattle.tablet_map.specs.Sets.{selected_list}
-use Rattle.tablet_map.proofs.Joined.{and_left, and_right, is_false}
+use Rattle.tablet_map.proofs.Joined.{and_both, and_left, and_right, is_false}
 use Rattle.tablet_map.proofs.Counts.{one_if}
 use Rattle.topo_state.specs.Lists.{Cleaned, Leaving, Nobody, Pending, chosen_list, cleanable_in, cleaned_by, cleaned_side, is_both, is_cleanable, reads_of, stage_in, writes_both, writes_of}
 use Rattle.log_law.specs.Pairs.{CleaningGoesOn, HasNoCleanable, IsAlike, IsPair, IsSameMove, Matters, NewList, OwnList, ReadBefore, ReadNow, ReadsGoOn, ReadsNew, ReadsOldAgain, SameReads, StaysCleanable, cleanable_host_in, is_cleaned_host, is_cleanable_host}
 use Rattle.log_law.specs.Steps.{Advances, Finishes, Regroups, Reverts, Starts, Stays, ViewStep}
 use Rattle.log_law.proofs.FrameLemmas.{framed}
-use Rattle.log_law.proofs.TurnLemmas.{all_carry, all_miss, all_stay, at_step, carried, count_first, count_if_none, count_less, missed, same_is}
+use Rattle.log_law.proofs.TurnLemmas.{all_carry, all_miss, all_stay, at_step, carried, count_if_none, count_less, missed, same_is}
+use Rattle.tablet_map.proofs.Counts.{count_first}
 use Rattle.log_law.proofs.Turns.{Frame, begins_both, both_spares, carries, each_list, every_step, implies, is_first_both, is_nobody, is_streaming, is_switch, lists_carry, lists_miss, misses, reads_stay, same_extra, same_selector, streams_after, turn_new, turn_old}
 
 -- the lists that matter
@@ -36,10 +37,6 @@ implied : (a b : Bool) → implies a b ≡ true → a ≡ true → b ≡ true
 implied true b h e = h
 implied false b h e = cc e
 
-both_true : (a b : Bool) → a ≡ true → b ≡ true → (a && b) ≡ true
-both_true true b p q = q
-both_true false b p q = cc p
-
 each_parts : (test : Selector → Bool) (from to : Option Stage) (mine : Bool) → each_list test from to mine ≡ true → Each test from to mine
 each_parts test from to mine h =
     let a : Bool = test (turn_old from (reads from)) in
@@ -52,7 +49,7 @@ each_parts test from to mine h =
       read_old = and_left a (b && (c && d)) h;
       read_new = and_left b (c && d) h1;
       old_new = implied (is_both (writes to)) (test (turn_new from to Old)) (and_left c d h2);
-      new_new = λ p q. implied (is_both (writes to) && mine) (test (turn_new from to New)) (and_right c d h2) (both_true (is_both (writes to)) mine p q);
+      new_new = λ p q. implied (is_both (writes to) && mine) (test (turn_new from to New)) (and_right c d h2) (and_both (is_both (writes to)) mine p q);
     }
 
 count_ext : (f g : Replica → Bool) → ((r : Replica) → f r ≡ g r) → (list : List Replica) → count_by f list ≡ count_by g list
@@ -264,7 +261,7 @@ begun_both i old new frame step p q =
     let same : Bool = same_selector (turn_new from to Old) (turn_old from (reads from)) in
     let both : (is_first_both from to && same) ≡ true =
     implied (is_both (writes to) && not (is_both (writes from))) (is_first_both from to && same) (at_step begins_both all_begin i old new step)
-    (both_true (is_both (writes to)) (not (is_both (writes from))) p (ap not q)) in
+    (and_both (is_both (writes to)) (not (is_both (writes from))) p (ap not q)) in
     let stages = first_both_cases from to (and_left (is_first_both from to) same both) in (
       stages.0,
       stages.1,

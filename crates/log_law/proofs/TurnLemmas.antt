@@ -1,9 +1,8 @@
 -- What the stage table says of two views one step apart, and counts over their lists.
-use Rattle.std.proofs.Common.{◌≡◌, ◌+◌, ◌≤◌, ◌⊎◌, ℕ, List, [], ◌∷◌, cond, Bool, true, false, not, ◌&&◌, Option, Some, None, refl, ap, sym, ◌∙◌, arith, inl, inr}
+use Rattle.std.proofs.Common.{◌≡◌, ◌+◌, ◌≤◌, ◌⊎◌, ℕ, List, [], ◌∷◌, Bool, true, false, not, ◌&&◌, Option, Some, None, refl, ap, sym, ◌∙◌, arith, inl, inr}
 use Rattle.std.specs.Prelude.{option_map}
 use Rattle.std.specs.List.{count_by, list_any}
 use Rattle.std.proofs.lemmas.Bool.{cond_both, cases_eq, eq-eqb, ne_eqb}
-use Rattle.std.proofs.lemmas.List.Sums.{sum_by-cons}
 use Rattle.base_ids.specs.declared.ids.HostId.{HostId}
 use Rattle.base_ids.specs.declared.ids.Replica.{Replica}
 use Rattle.stage_graph.specs.declared.stage.Stage.{Stage}
@@ -19,7 +18,7 @@ use Rattle.base_ids.specs.Replicas.{has_replica, has_host, is_on, on_distinct_ho
 use Rattle.tablet_map.specs.Sets.{selected_list}
 use Rattle.tablet_map.proofs.Joined.{and_left, and_right, or_left, or_right, not_true, is_false}
 use Rattle.tablet_map.proofs.Members.{host_of}
-use Rattle.tablet_map.proofs.Counts.{one_if, count_behind, count_replaced}
+use Rattle.tablet_map.proofs.Counts.{count_behind, count_first, count_replaced, one_if}
 use Rattle.topo_state.specs.Lists.{Cleaned, Leaving, Nobody, Pending, cleaned_by, stage_in}
 use Rattle.log_law.specs.Steps.{Advances, Finishes, Regroups, Reverts, Starts, Stays, ViewStep}
 use Rattle.log_law.proofs.Turns.{carries, every_step, lists_carry, lists_miss, misses, reads_stay, same_selector}
@@ -91,9 +90,6 @@ at_step test all i old new (Reverts t was at e) =
     (parts test all).reverts
 
 -- counts
-
-pub count_first : (test : Replica → Bool) (r : Replica) (rest : List Replica) → count_by test (r ∷ rest) ≡ one_if (test r) + count_by test rest
-count_first test r rest = sum_by-cons (λ x. cond (test x) 1 0) r rest
 
 pub count_none : (test : Replica → Bool) → ((r : Replica) → test r ≡ false) → (list : List Replica) → count_by test list ≡ 0
 count_none test none1 [] = refl

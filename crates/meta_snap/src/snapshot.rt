@@ -1,12 +1,11 @@
 ghost use Rattle.std.specs.Prelude.{◌≡◌, IfOk, IfSome, map, option_map};
-ghost use Rattle.base_ids.specs.Names.{same_host};
 ghost use Rattle.topo_state.specs.State.{is_member};
 ghost use Rattle.meta_snap.specs.Lists.{table_lists};
 ghost use Rattle.meta_snap.specs.Routes.{directions_in, CanAnswer};
 
 use crate::lists::{TableLists, lists_of_table, table_lists};
 use crate::route::{Route, route_at};
-use base_ids::{HostId, NoMemory, TableId, Version};
+use base_ids::{HostId, NoMemory, TableId, Version, is_same_host};
 use std::alloc::Global;
 use std::marker::Model;
 use token_ring::{Token, tablet_of};
@@ -58,7 +57,7 @@ impl Snapshot {
         self.state
             .members()
             .iter()
-            .any(|member| is_same(host, *member))
+            .any(|member| is_same_host(host, *member))
     }
 
     /// Where requests for a key go, and how many answers they need. `None` where the state lacks the table, and only
@@ -88,11 +87,4 @@ fn all_lists(alloc: Global, tables: &[Table]) -> Result<Vec<TableLists>, NoMemor
         lists.push(table_lists(alloc, table)?)?;
     }
     Ok(lists)
-}
-
-/// Whether two hosts are one.
-fn is_same(a: HostId, b: HostId) -> bool
-    ensures { result ≡ same_host a b }
-{
-    a == b
 }

@@ -2,13 +2,12 @@
 use Rattle.std.proofs.Common.{arith, inl, inr, refl, subst, sym, ◌∙◌}
 use Rattle.std.specs.Prelude.{List, Some, true, ℕ, ◌∷◌, ◌≡◌}
 use Rattle.answer_law.proofs.DecisionLemmas.{IsWriteOf, decided, is_write, ok_reply}
-use Rattle.answer_law.proofs.ReadLemmas.{write_counts}
-use Rattle.answer_law.proofs.ReplyLemmas.{Decides, Replies, replies}
-use Rattle.answer_law.proofs.ReplyLemmas.Replies.{replies_at_once, replies_decided, replies_given_up}
+use Rattle.answer_law.proofs.ReadLemmas.{no_ok_away, write_counts}
+use Rattle.history_facts.proofs.ReplyLemmas.{Decides, Replies, replies}
+use Rattle.history_facts.proofs.ReplyLemmas.Replies.{replies_at_once, replies_decided, replies_given_up}
 use Rattle.answer_law.proofs.TakenLemmas.{IsSaidFirst, said_first}
 use Rattle.answer_law.proofs.TellLemmas.{decides_sent}
-use Rattle.answer_law.proofs.WayLemmas.{IsTurnedAway, turned_away}
-use Rattle.answer_law.proofs.WayLemmas.IsTurnedAway.{HasNoTable, IsNoMember}
+use Rattle.answer_law.proofs.WayLemmas.{turned_away}
 use Rattle.answer_law.specs.Served.{AllSentTo}
 use Rattle.base_ids.specs.declared.ids.LaneId.{LaneId}
 use Rattle.base_ids.specs.declared.ids.MsgRef.{MsgRef}
@@ -37,7 +36,7 @@ use Rattle.register_model.specs.declared.data.ClientEvent.TheVariants.{WriteAcke
 use Rattle.register_model.specs.declared.data.Request.{Request as Named}
 use Rattle.stage_graph.specs.declared.kind.Kind.{Kind}
 use Rattle.token_ring.specs.declared.token.Token.{Token}
-use Rattle.overlap_law.proofs.CountLemmas.{count_more}
+use Rattle.answer_law.proofs.CountLemmas.{count_more}
 use Rattle.overlap_law.proofs.SaidLemmas.{sent_said}
 use Rattle.overlap_law.proofs.SeenLemmas.{seen_cases, stands_split}
 use Rattle.overlap_law.proofs.SettledLemmas.{settled-later, settled_now}
@@ -72,13 +71,9 @@ settles opening history lane at reply legal decides ok =
           ))
     ]
 
-no_ok : (reply : Reply) → IsTurnedAway reply → reply ≡ Ok → ⊥
-no_ok reply (HasNoTable is) e = let wrong : NoTable ≡ Ok = sym is ∙ e in cc wrong
-no_ok reply (IsNoMember is) e = let wrong : NotMember ≡ Ok = sym is ∙ e in cc wrong
-
 replied_ok : (opening : Opening) (history : History) (lane : LaneId) (event : Event) (op : OpId) (version : Version) (kind : Kind) (reply : Reply) → IsLegalHistory opening history → Replies opening history lane event op version kind reply → reply ≡ Ok → is_settled opening history lane op ≡ true
 replied_ok opening history lane event op version kind reply legal (replies_at_once {operation = operation} {version = begun_at} told ends) ok =
-    absurd (no_ok told (turned_away opening history lane operation begun_at told ends) ok)
+    absurd (no_ok_away told (turned_away opening history lane operation begun_at told ends) ok)
 replied_ok opening history lane event op version kind reply legal (replies_decided {at = at} decides) ok = settles opening history lane at reply legal decides ok
 replied_ok opening history lane event op version kind reply legal (replies_given_up request live begun) ok = cc ok
 

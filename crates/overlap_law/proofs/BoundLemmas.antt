@@ -9,7 +9,7 @@ use Rattle.cell_merge.specs.declared.cell.Cell.{Cell}
 use Rattle.quorum_ops.specs.Decision.{first_said, greatest_told, has_answered, said_cell}
 use Rattle.quorum_ops.specs.declared.data.Answer.{Answer}
 use Rattle.stage_graph.specs.Table.{base_need}
-use Rattle.overlap_law.proofs.CountLemmas.{count_first, one_if}
+use Rattle.answer_law.proofs.CountLemmas.{count_first, one_if}
 
 -- two majorities are more than all
 pub two_majorities : (n : ℕ) → n < base_need n + base_need n

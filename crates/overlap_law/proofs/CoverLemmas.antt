@@ -44,7 +44,8 @@ use Rattle.tablet_map.specs.declared.tablet.Transition.{Transition}
 use Rattle.token_ring.specs.declared.token.Token.{Token}
 use Rattle.topo_state.specs.Lists.{chosen_list, chosen_by, is_both, reads_of, stage_in, writes_both, writes_of}
 use Rattle.stream_law.specs.Covered.{covered_count, holds, last_version}
-use Rattle.overlap_law.proofs.CountLemmas.{count_more, count_more_in}
+use Rattle.overlap_law.proofs.CountLemmas.{count_more_in}
+use Rattle.answer_law.proofs.CountLemmas.{count_more}
 use Rattle.overlap_law.proofs.KeptLemmas.{HoldsOrLeft, holds-later, recent-before, recent_last, said_kept}
 use Rattle.overlap_law.proofs.LossLemmas.{dropped_unread, dropped_unwritten, view_is, view_known}
 use Rattle.overlap_law.proofs.RaiseLemmas.{last_by_one, raise_drops_none, view-before, view-later}

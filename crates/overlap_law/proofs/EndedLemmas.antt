@@ -1,9 +1,9 @@
 -- Requests that clients saw begin or end: their numbers are those of begins, and a live request has not ended.
 use Rattle.std.proofs.Common.{ap, arith, inl, inr, subst, sym, ◌∙◌}
 use Rattle.std.specs.List.{list_any}
-use Rattle.std.specs.Prelude.{Bool, None, Some, false, if◌then◌else◌, not, slice_get, true, ℕ, ◌+◌, ◌||◌, ◌∷◌, ◌≡◌, ◌≤◌}
-use Rattle.answer_law.proofs.ReplyLemmas.{Replies, replies}
-use Rattle.answer_law.proofs.ReplyLemmas.Replies.{replies_at_once, replies_decided, replies_given_up}
+use Rattle.std.specs.Prelude.{None, Some, false, if◌then◌else◌, not, slice_get, true, ℕ, ◌+◌, ◌||◌, ◌∷◌, ◌≡◌, ◌≤◌}
+use Rattle.history_facts.proofs.ReplyLemmas.{Replies, replies}
+use Rattle.history_facts.proofs.ReplyLemmas.Replies.{replies_at_once, replies_decided, replies_given_up}
 use Rattle.base_ids.specs.declared.ids.Actor.TheVariants.{Lane as ByLane}
 use Rattle.base_ids.specs.declared.ids.LaneId.{LaneId}
 use Rattle.base_ids.specs.declared.ids.OpId.{OpId}
@@ -28,15 +28,9 @@ use Rattle.overlap_law.proofs.CountLemmas.{found_any}
 use Rattle.overlap_law.proofs.SaidLemmas.{some_same}
 use Rattle.overlap_law.proofs.SeenLemmas.{IsBegun, begin_begins, begin_ends, reply_begins, reply_ends, seen_cases, stands_split}
 use Rattle.overlap_law.specs.ClientEvents.{named_request, reply_event, seen_in, seen_of}
+use Rattle.stream_law.proofs.SettledLemmas.{begun-rises}
 
 -- ---- what was seen was begun
-
-begun_step : (begin : Bool) (count : ℕ) → count ≤ (if begin then count + 1 else count)
-begun_step true count = omega arith
-begun_step false count = omega arith
-
-pub begun-rises : (history : History) (entry : Entry) (lane : LaneId) → begun_count history lane ≤ begun_count (entry ∷ history) lane
-begun-rises history entry lane = begun_step (is_begin_of lane entry.event) (begun_count history lane)
 
 begun-now : (history : History) (entry : Entry) (lane : LaneId) → is_begin_of lane entry.event ≡ true → begun_count (entry ∷ history) lane ≡ begun_count history lane + 1
 begun-now history entry lane e = ap (λ b. if b then begun_count history lane + 1 else begun_count history lane) e

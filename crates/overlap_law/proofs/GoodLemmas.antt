@@ -47,7 +47,8 @@ use Rattle.token_ring.specs.declared.token.Token.{Token}
 use Rattle.topo_state.specs.Lists.{reads_of, stage_in}
 use Rattle.stream_law.specs.Covered.{covered_count, holds, last_version}
 use Rattle.overlap_law.proofs.AckedLemmas.{acked_settled}
-use Rattle.overlap_law.proofs.CountLemmas.{count_all, count_more, count_more_in}
+use Rattle.overlap_law.proofs.CountLemmas.{count_all, count_more_in}
+use Rattle.answer_law.proofs.CountLemmas.{count_more}
 use Rattle.overlap_law.proofs.CoverLemmas.{route_shown}
 use Rattle.overlap_law.proofs.LossLemmas.{dropped_unread}
 use Rattle.overlap_law.proofs.EndedLemmas.{seen_begun}

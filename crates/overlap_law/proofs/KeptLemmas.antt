@@ -49,7 +49,8 @@ use Rattle.quorum_ops.specs.declared.data.Said.TheVariants.{Found, Stale as Refu
 use Rattle.register_model.specs.declared.data.Key.{Key}
 use Rattle.token_ring.specs.declared.token.Token.{Token}
 use Rattle.stream_law.specs.Covered.{holds, last_version}
-use Rattle.overlap_law.proofs.CleanLemmas.{IsLeftBehind, clean_lemma, host_in}
+use Rattle.overlap_law.proofs.CleanLemmas.{IsLeftBehind, clean_lemma}
+use Rattle.tablet_map.proofs.Members.{host_of}
 use Rattle.overlap_law.proofs.LossLemmas.{view_is, view_known}
 use Rattle.overlap_law.proofs.RaiseLemmas.{drop_keeps_last, left-later}
 use Rattle.overlap_law.proofs.SaidLemmas.{IsSaid, IsTarget, request-then, said_target, said_found, said_known, says, some_same, write_asked}
@@ -158,7 +159,7 @@ target_stays opening history lane op from request table token cell valid legal b
     let one : left.tablet ≡ route.tablet = some_same left.tablet route.tablet (sym left.shown ∙ here) in
     let pair : IsPair route.tablet route.tablet = (pairs_law first valid.topology log (log_legal opening history legal)).same (last_version opening history) key.table key.token route.tablet here in
     let targets : request.targets ≡ writes_of route.tablet = route.targets ∙ ap (λ (o : Operation). targets_of (kind_of o) route.tablet) is in
-    let there : has_host (writes_of route.tablet) from.host ≡ true = ap (λ replicas. has_host replicas from.host) (sym targets) ∙ host_in request.targets from among in
+    let there : has_host (writes_of route.tablet) from.host ≡ true = ap (λ replicas. has_host replicas from.host) (sym targets) ∙ host_of request.targets from among in
     let wrong : true ≡ false = sym left.cleanable ∙ ap (λ (t : Tablet). is_cleanable_host t from.host) one ∙ pair.spares.written_now.hosts from.host there in
     cc wrong
 

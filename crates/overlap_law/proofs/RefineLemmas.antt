@@ -6,7 +6,7 @@ use Rattle.std.specs.List.{count_by}
 use Rattle.std.specs.Prelude.{Bool, List, None, Option, Some, [], false, length, map, not, slice_get, suc, true, zero, ℕ, ◌++◌, ◌<◌, ◌∷◌, ◌≡◌, ◌≤◌, ◌⊎◌}
 use Rattle.answer_law.proofs.DecisionLemmas.{decided, operations}
 use Rattle.answer_law.proofs.ReadLemmas.{IsTold, read_counts, told_written}
-use Rattle.answer_law.proofs.ReplyLemmas.{Decides, answer_addressed, live_is}
+use Rattle.history_facts.proofs.ReplyLemmas.{Decides, answer_addressed, live_is}
 use Rattle.answer_law.proofs.TakenLemmas.{IsSaidFirst, said_first}
 use Rattle.answer_law.proofs.TellLemmas.{decides_sent}
 use Rattle.answer_law.proofs.WayLemmas.{IsTurnedAway, turned_away}

@@ -40,6 +40,7 @@ use Rattle.quorum_ops.specs.declared.data.Said.TheVariants.{Found, Written}
 use Rattle.quorum_ops.specs.declared.data.WriteAsk.{WriteAsk}
 use Rattle.overlap_law.proofs.CountLemmas.{IsFound, any_found, found_any}
 use Rattle.stream_law.specs.Settled.{has_said, is_answer_of}
+use Rattle.barrier_law.proofs.LateLemmas.{answer_same}
 
 pub some_same : {X : Type 0} (a b : X) → Some a ≡ Some b → a ≡ b
 some_same a b e = cc
@@ -109,9 +110,6 @@ pub record IsReadSaid (opening : Opening) (history : History) (event : Event) (l
   pub op_is : ask.op ≡ op
   pub from_is : ask.to ≡ from
   pub said_is : said ≡ said_to ask.version (fence_of opening history host) (Found (held_cell opening history host (read_key ask)))
-
-answer_same : (a b : Answer) → AnswerSent a ≡ AnswerSent b → a ≡ b
-answer_same a b e = cc e
 
 said_by :
     (opening : Opening) (history : History) (event : Event) (message : Message) (answer : Answer) →

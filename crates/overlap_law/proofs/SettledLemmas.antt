@@ -39,7 +39,7 @@ use Rattle.stage_graph.specs.declared.kind.Kind.TheVariants.{Read as ReadKind, W
 use Rattle.topo_state.specs.Lists.{stage_in}
 use Rattle.stage_graph.specs.declared.stage.Stage.{Stage}
 use Rattle.stream_law.specs.Covered.{last_version}
-use Rattle.overlap_law.proofs.CountLemmas.{count_more, count_none}
+use Rattle.answer_law.proofs.CountLemmas.{count_more, count_none}
 use Rattle.overlap_law.proofs.SaidLemmas.{IsKnown, IsSaid, newly_known, said_found, said_known, says, some_same}
 use Rattle.overlap_law.specs.Barriers.{IsFrozen, IsRecent}
 use Rattle.stream_law.specs.Settled.{has_enough, has_said, is_answer_of, is_settled, written_count}

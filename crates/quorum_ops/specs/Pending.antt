@@ -1,4 +1,4 @@
--- What an operation is seen as while it waits, and what an answer changes.
+-- What a waiting read or write is seen as, and what an answer changes.
 use Rattle.std.specs.Prelude.{ℕ, ◌≡◌, List, Option, None, if◌then◌else◌, nat_le, nat_lt}
 use Rattle.base_ids.specs.declared.ids.LaneId.{LaneId}
 use Rattle.base_ids.specs.declared.ids.OpId.{OpId}

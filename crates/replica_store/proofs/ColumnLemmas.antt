@@ -47,7 +47,7 @@ IsAfter-drop place zero xs after = after
 IsAfter-drop place (suc n) [] after = tt
 IsAfter-drop place (suc n) (x ∷ xs) after = IsAfter-drop place n xs after.1
 
-IsOrdered-drop : (n : ℕ) (xs : Cells) → IsOrdered xs → IsOrdered (drop n xs)
+pub IsOrdered-drop : (n : ℕ) (xs : Cells) → IsOrdered xs → IsOrdered (drop n xs)
 IsOrdered-drop zero xs ordered = ordered
 IsOrdered-drop (suc n) [] ordered = tt
 IsOrdered-drop (suc n) (x ∷ xs) ordered = IsOrdered-drop n xs ordered.1

@@ -3,7 +3,7 @@ use Rattle.std.proofs.Common.{◌≡◌, ℕ, zero, suc, ◌+◌, ◌-◌, ◌*�
 use Rattle.std.proofs.lemmas.Bool.Decides.{nat_tests}
 use Rattle.std.proofs.lemmas.List.{take-append-drop}
 use Rattle.base_ids.specs.declared.ids.TableId.{TableId}
-use Rattle.token_ring.specs.Ring.{place}
+use Rattle.token_ring.specs.Ring.{offset}
 use Rattle.token_ring.specs.declared.token.Token.{Token}
 use Rattle.token_ring.specs.declared.ring.TokenRange.{TokenRange}
 use Rattle.replica_store.specs.declared.store.Stored.{Stored}
@@ -66,7 +66,7 @@ next_wanted table range after e wanted other =
     let first = first_le_start table range after in
     let tables : (e.0.0 == table.0) ≡ true = first_true (e.0.0 == table.0) _ (first_true (is_inside table range e) _ wanted) in
     let one_table : e.0.0 ≡ table.0 = grind (arith, nat_tests) in
-    let rank_same : rank table e.1.token ≡ rank_of e = ap (λ n. n * 2 ^ 64 + place e.1.token.value) (sym one_table) in
+    let rank_same : rank table e.1.token ≡ rank_of e = ap (λ n. n * 2 ^ 64 + offset e.1.token.value) (sym one_table) in
     is_wanted-rank table range (Some e.1.token) other
     ∙ rw rank_same (next_tests (rank table range.first) (start_of table range after) (rank_of e) (rank_of other) (end_of table range) reached (omega arith))
     ∙ ap (λ b. b && nat_lt (rank_of e) (rank_of other)) (sym (is_wanted-rank table range after other))

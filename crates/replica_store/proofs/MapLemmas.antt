@@ -8,7 +8,7 @@ use Rattle.std.specs.Ordering.{int_eq}
 use Rattle.base_ids.specs.declared.ids.TableId.{TableId}
 use Rattle.token_ring.specs.declared.token.Token.{Token}
 use Rattle.token_ring.specs.declared.ring.TokenRange.{TokenRange}
-use Rattle.token_ring.specs.Ring.{IsToken, place}
+use Rattle.token_ring.specs.Ring.{IsToken, offset}
 use Rattle.cell_merge.specs.declared.cell.Cell.{Cell}
 use Rattle.replica_store.specs.declared.store.Stored.{Stored}
 use Rattle.replica_store.specs.Cells.{Cells, IsOrdered, IsAfter, rank, rank_of, is_same, is_within, is_inside, is_above, cell_at, outside, range_cells, stored_at, IsAllAbove, IsAscending}
@@ -40,7 +40,7 @@ cell_at-outside (x ∷ xs) table range t k =
           ]
     ] refl
 
-cell_at-after : (xs : Cells) (t : TableId) (k : Token) (first : ℕ) → IsAfter first xs → rank t k ≤ first → cell_at xs t k ≡ None
+pub cell_at-after : (xs : Cells) (t : TableId) (k : Token) (first : ℕ) → IsAfter first xs → rank t k ≤ first → cell_at xs t k ≡ None
 cell_at-after [] t k first after below = refl
 cell_at-after (x ∷ xs) t k first after below =
     let other : is_same x.0 x.1.token t k ≡ false = is_same-rank x.0 x.1.token t k ∙ grind (arith, nat_tests, after.0) in
@@ -148,7 +148,7 @@ above_after (y ∷ ys) table range after x inside behind =
           let left = both_true (x.0.0 == table.0) _ inside in
           let right = both_true (y.0.0 == table.0) _ (both_true (is_inside table range y) (is_above after y.1.token) asked).0 in
           let one_table : x.0.0 ≡ y.0.0 = grind (arith, nat_tests, left.0, right.0) in
-          let lower : place x.1.token.value < place y.1.token.value = table_place x.0.0 y.0.0 (place x.1.token.value) (place y.1.token.value) (2 ^ 64) one_table behind.0 in
+          let lower : offset x.1.token.value < offset y.1.token.value = table_place x.0.0 y.0.0 (offset x.1.token.value) (offset y.1.token.value) (2 ^ 64) one_table behind.0 in
           (token_below x.1.token y.1.token lower, above_after ys table range after x inside behind.1)
       | false ↦ λ _. above_after ys table range after x inside behind.1
     ] refl

@@ -6,7 +6,7 @@ use Rattle.std.proofs.lemmas.Bool.{cases_lt}
 use Rattle.std.proofs.lemmas.Bool.Decides.{nat_tests}
 use Rattle.std.proofs.lemmas.Int.{ints}
 use Rattle.base_ids.specs.declared.ids.TableId.{TableId}
-use Rattle.token_ring.specs.Ring.{IsToken, place}
+use Rattle.token_ring.specs.Ring.{IsToken, offset}
 use Rattle.token_ring.specs.declared.token.Token.{Token}
 use Rattle.token_ring.specs.declared.ring.TokenRange.{TokenRange}
 use Rattle.replica_store.specs.declared.store.Stored.{Stored}
@@ -27,32 +27,32 @@ same-rank a b p q M left right =
       ]
     ]
 
-place_below : (v : ℤ) → IsToken v → place v < 2 ^ 64
-place_below (pos n) token = omega (arith, ints, token.1)
-place_below (negsuc n) token = omega arith
+offset_below : (v : ℤ) → IsToken v → offset v < 2 ^ 64
+offset_below (pos n) token = omega (arith, ints, token.1)
+offset_below (negsuc n) token = omega arith
 
-int_eq-place : (a b : ℤ) → IsToken a → IsToken b → int_eq a b ≡ (place a == place b)
-int_eq-place (pos a) (pos b) left right = grind (arith, ints, nat_tests)
-int_eq-place (pos a) (negsuc b) left right = grind (arith, ints, nat_tests)
-int_eq-place (negsuc a) (pos b) left right = grind (arith, ints, nat_tests)
-int_eq-place (negsuc a) (negsuc b) left right = grind (arith, ints, nat_tests)
+int_eq-offset : (a b : ℤ) → IsToken a → IsToken b → int_eq a b ≡ (offset a == offset b)
+int_eq-offset (pos a) (pos b) left right = grind (arith, ints, nat_tests)
+int_eq-offset (pos a) (negsuc b) left right = grind (arith, ints, nat_tests)
+int_eq-offset (negsuc a) (pos b) left right = grind (arith, ints, nat_tests)
+int_eq-offset (negsuc a) (negsuc b) left right = grind (arith, ints, nat_tests)
 
-int_le-place : (a b : ℤ) → IsToken a → IsToken b → int_le a b ≡ nat_le (place a) (place b)
-int_le-place (pos a) (pos b) left right = grind (arith, ints, nat_tests)
-int_le-place (pos a) (negsuc b) left right = grind (arith, ints, nat_tests)
-int_le-place (negsuc a) (pos b) left right = grind (arith, ints, nat_tests)
-int_le-place (negsuc a) (negsuc b) left right = grind (arith, ints, nat_tests)
+int_le-offset : (a b : ℤ) → IsToken a → IsToken b → int_le a b ≡ nat_le (offset a) (offset b)
+int_le-offset (pos a) (pos b) left right = grind (arith, ints, nat_tests)
+int_le-offset (pos a) (negsuc b) left right = grind (arith, ints, nat_tests)
+int_le-offset (negsuc a) (pos b) left right = grind (arith, ints, nat_tests)
+int_le-offset (negsuc a) (negsuc b) left right = grind (arith, ints, nat_tests)
 
-int_lt-place : (a b : ℤ) → IsToken a → IsToken b → int_lt a b ≡ nat_lt (place a) (place b)
-int_lt-place (pos a) (pos b) left right = grind (arith, ints, nat_tests)
-int_lt-place (pos a) (negsuc b) left right = grind (arith, ints, nat_tests)
-int_lt-place (negsuc a) (pos b) left right = grind (arith, ints, nat_tests)
-int_lt-place (negsuc a) (negsuc b) left right = grind (arith, ints, nat_tests)
+int_lt-offset : (a b : ℤ) → IsToken a → IsToken b → int_lt a b ≡ nat_lt (offset a) (offset b)
+int_lt-offset (pos a) (pos b) left right = grind (arith, ints, nat_tests)
+int_lt-offset (pos a) (negsuc b) left right = grind (arith, ints, nat_tests)
+int_lt-offset (negsuc a) (pos b) left right = grind (arith, ints, nat_tests)
+int_lt-offset (negsuc a) (negsuc b) left right = grind (arith, ints, nat_tests)
 
 -- two tokens of tables are the same exactly where their ranks are
 pub is_same-rank : (table : TableId) (token : Token) (other_table : TableId) (other : Token) → is_same table token other_table other ≡ (rank table token == rank other_table other)
 is_same-rank table token other_table other =
-    rw (int_eq-place token.value other.value token.is_token other.is_token) (same-rank table.0 other_table.0 (place token.value) (place other.value) (2 ^ 64) (place_below token.value token.is_token) (place_below other.value other.is_token))
+    rw (int_eq-offset token.value other.value token.is_token other.is_token) (same-rank table.0 other_table.0 (offset token.value) (offset other.value) (2 ^ 64) (offset_below token.value token.is_token) (offset_below other.value other.is_token))
 
 -- within one table, from a place to below another; in another table, neither
 between-rank : (a b first p last M : ℕ) → first < M → p < M → last < M → ((a == b) && (nat_le first p && nat_le p last)) ≡ (nat_le (b * M + first) (a * M + p) && nat_lt (a * M + p) (b * M + last + 1))
@@ -67,8 +67,8 @@ between-rank a b first p last M first_below p_below last_below =
 
 pub is_within-rank : (table : TableId) (range : TokenRange) (t : TableId) (k : Token) → is_within table range t k ≡ (nat_le (rank table range.first) (rank t k) && nat_lt (rank t k) (end_of table range))
 is_within-rank table range t k =
-    rw (int_le-place range.first.value k.value range.first.is_token k.is_token, int_le-place k.value range.last.value k.is_token range.last.is_token)
-    (between-rank t.0 table.0 (place range.first.value) (place k.value) (place range.last.value) (2 ^ 64) (place_below range.first.value range.first.is_token) (place_below k.value k.is_token) (place_below range.last.value range.last.is_token))
+    rw (int_le-offset range.first.value k.value range.first.is_token k.is_token, int_le-offset k.value range.last.value k.is_token range.last.is_token)
+    (between-rank t.0 table.0 (offset range.first.value) (offset k.value) (offset range.last.value) (2 ^ 64) (offset_below range.first.value range.first.is_token) (offset_below k.value k.is_token) (offset_below range.last.value range.last.is_token))
 
 pub is_inside-rank : (table : TableId) (range : TokenRange) (e : TableId × Stored) → is_inside table range e ≡ (nat_le (rank table range.first) (rank_of e) && nat_lt (rank_of e) (end_of table range))
 is_inside-rank table range e = is_within-rank table range e.0 e.1.token
@@ -91,14 +91,14 @@ and-true false = refl
 pub is_wanted-rank : (table : TableId) (range : TokenRange) (after : Option Token) (e : TableId × Stored) → (is_inside table range e && is_above after e.1.token) ≡ (nat_le (start_of table range after) (rank_of e) && nat_lt (rank_of e) (end_of table range))
 is_wanted-rank table range None e = and-true (is_inside table range e) ∙ is_inside-rank table range e
 is_wanted-rank table range (Some after) e =
-    rw (int_le-place range.first.value e.1.token.value range.first.is_token e.1.token.is_token, int_le-place e.1.token.value range.last.value e.1.token.is_token range.last.is_token, int_lt-place after.value e.1.token.value after.is_token e.1.token.is_token)
-    (above-rank e.0.0 table.0 (place range.first.value) (place e.1.token.value) (place range.last.value) (place after.value) (2 ^ 64) (place_below range.first.value range.first.is_token) (place_below e.1.token.value e.1.token.is_token) (place_below range.last.value range.last.is_token) (place_below after.value after.is_token))
+    rw (int_le-offset range.first.value e.1.token.value range.first.is_token e.1.token.is_token, int_le-offset e.1.token.value range.last.value e.1.token.is_token range.last.is_token, int_lt-offset after.value e.1.token.value after.is_token e.1.token.is_token)
+    (above-rank e.0.0 table.0 (offset range.first.value) (offset e.1.token.value) (offset range.last.value) (offset after.value) (2 ^ 64) (offset_below range.first.value range.first.is_token) (offset_below e.1.token.value e.1.token.is_token) (offset_below range.last.value range.last.is_token) (offset_below after.value after.is_token))
 
 -- of one table, the lower rank has the lower token
 pub table_place : (a b p q M : ℕ) → a ≡ b → a * M + p < b * M + q → p < q
 table_place a b p q M same below = let tables : a * M ≡ b * M = ap (λ n. n * M) same in omega arith
 
-pub token_below : (a b : Token) → place a.value < place b.value → a.value <ℤ b.value
+pub token_below : (a b : Token) → offset a.value < offset b.value → a.value <ℤ b.value
 token_below a b below =
-    let test : int_lt a.value b.value ≡ true = int_lt-place a.value b.value a.is_token b.is_token ∙ grind (arith, nat_tests) in
+    let test : int_lt a.value b.value ≡ true = int_lt-offset a.value b.value a.is_token b.is_token ∙ grind (arith, nat_tests) in
     grind (arith, ints)

@@ -3,7 +3,7 @@ use Rattle.std.specs.Prelude.{◌≡◌, ℕ, ◌+◌, ◌*◌, ◌^◌, ◌<◌
 use Rattle.std.specs.Ordering.{int_eq}
 use Rattle.base_ids.specs.declared.ids.TableId.{TableId}
 use Rattle.cell_merge.specs.declared.cell.Cell.{Cell}
-use Rattle.token_ring.specs.Ring.{place}
+use Rattle.token_ring.specs.Ring.{offset}
 use Rattle.token_ring.specs.declared.token.Token.{Token}
 use Rattle.token_ring.specs.declared.ring.TokenRange.{TokenRange}
 use Rattle.replica_store.specs.declared.store.Stored.{Stored}
@@ -14,7 +14,7 @@ Cells = List (TableId × Stored)
 
 -- the place of a token of a table among the places of all tables: they follow those of the tables below it
 abbrev pub rank : TableId → Token → ℕ
-rank table token = table.0 * 2 ^ 64 + place token.value
+rank table token = table.0 * 2 ^ 64 + offset token.value
 
 -- the place of a stored cell
 abbrev pub rank_of : TableId × Stored → ℕ

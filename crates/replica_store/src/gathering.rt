@@ -23,7 +23,7 @@ pub fn gather<S: Store>(
     let mut after = None;
     'gathering: loop {
         let Chunk { cells, more } = store.chunk(table, range, after, max);
-        append(&mut list, cells)?;
+        append_cells(&mut list, cells)?;
         if !more {
             return Ok(list);
         }
@@ -34,8 +34,8 @@ pub fn gather<S: Store>(
     }
 }
 
-/// Adds cells at the end of a list.
-fn append(list: &mut StoredList, cells: &[Stored]) -> Result<(), NoMemory>
+/// Adds cells at the end of a list. `NoMemory` comes where memory for the list is refused.
+pub fn append_cells(list: &mut StoredList, cells: &[Stored]) -> Result<(), NoMemory>
     ensures { OnOk result (list.new ≡ list.old ++ cells.now) }
 {
     for stored in cells {

@@ -9,7 +9,7 @@ mod store;
 mod vec_store;
 
 pub use columns::{insert, raise, rank, start_of, take_out};
-pub use gathering::gather;
+pub use gathering::{append_cells, gather};
 pub use laws::{law_one_list, law_outside, law_range};
 pub use putting::{put_all, put_one};
 pub use store::{Chunk, Store, Stored, StoredList};

@@ -8,7 +8,7 @@ ghost use Rattle.report_text.specs.Tally.{IsTally, tally_after};
 
 use crate::entries::{add_entry, entry_replies};
 use crate::texts::end_line;
-use base_ids::{Appended, Items, Line, NoMemory, Version};
+use base_ids::{Appended, FIRST_VERSION, Items, Line, NoMemory, Version};
 use cluster_history::{Entry, Event, Journal, Output};
 use std::alloc::Global;
 use topo_state::Command;
@@ -91,8 +91,8 @@ fn told(alloc: Global, journal: &Journal) -> Result<(LineList, Tally), NoMemory>
     let mut tally = Tally {
         replies: 0,
         log: 0,
-        version: Version(1),
-        fence: Version(1),
+        version: FIRST_VERSION,
+        fence: FIRST_VERSION,
     };
     for entry in journal.entries.as_slice() {
         tally = tally_after(tally, accepted_command(entry));

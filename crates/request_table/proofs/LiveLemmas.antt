@@ -8,7 +8,7 @@ use Rattle.request_table.specs.declared.Live.{Live}
 use Rattle.request_table.specs.Requests.{is_same_request, request_of, with_work}
 
 module _ {P O : Type 0} where
-  -- to write a whole request back with another operation is to change its operation
+  -- to write a whole request back with other work is to change its work
   pub set_value-with_work : (live : List (OpId × Live P O)) (op : OpId) (x : Live P O) (work : O) → request_of live op ≡ Some x → set_value (is_same_request op) live (record x { work = work }) ≡ with_work live op work
   set_value-with_work [] op x work found = refl
   set_value-with_work (r ∷ rs) op x work found =
@@ -17,7 +17,7 @@ module _ {P O : Type 0} where
         | false ↦ λ below. ap (λ es. r ∷ es) (set_value-with_work rs op x work below)
       ] found
 
-  -- where the request is not live, there is no operation to change
+  -- where the request is not live, there is no work to change
   pub with_work-absent : (live : List (OpId × Live P O)) (op : OpId) (work : O) → option_map (λ r. r.work) (request_of live op) ≡ None → live ≡ with_work live op work
   with_work-absent [] op work absent = refl
   with_work-absent (r ∷ rs) op work absent =

@@ -23,7 +23,7 @@ module _ {P O : Type 0} where
   abbrev pub without : List (OpId × Live P O) → OpId → List (OpId × Live P O)
   without live op = remove_entry (is_same_request op) live
 
-  -- the same requests, the one of this number with another operation
+  -- the same requests, the one of this number with other work
   abbrev pub with_work : List (OpId × Live P O) → OpId → O → List (OpId × Live P O)
   with_work [] op work = []
   with_work (r ∷ rs) op work = if is_same_request op r.0 then (r.0, record r.1 { work = work }) ∷ rs

@@ -103,17 +103,6 @@ impl<P: Drop, O: Drop> RequestTable<P, O> {
         self.requests.get(&op)
     }
 
-    /// Puts other work in the place of a live request's. Where the request is not live, nothing changes.
-    pub fn replace(&mut self, op: OpId, work: O)
-        ensures live { self.new.live ≡ with_work self.old.live op work }
-        ensures room { self.new.room ≡ self.old.room }
-    {
-        match self.get_mut(op) {
-            Some(lent) => *lent = work,
-            None => {}
-        }
-    }
-
     /// Lends the work of a request, to be changed. `None` comes exactly where the request is not live.
     pub fn get_mut(&mut self, op: OpId) -> Option<&mut O>
         ensures* writes_back { sem 𝓛 (LendsWork P.row O.row self.entry op result) }

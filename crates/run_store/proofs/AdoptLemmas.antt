@@ -7,8 +7,8 @@ use Rattle.std.proofs.Math.Pow.{pow-lt}
 use Rattle.base_ids.specs.declared.ids.TableId.{TableId}
 use Rattle.token_ring.specs.declared.token.Token.{Token}
 use Rattle.token_ring.specs.declared.ring.TokenRange.{TokenRange}
-use Rattle.token_ring.specs.Ring.{place, tablet_at, first_place, last_place}
-use Rattle.token_ring.proofs.Places.{place_below, place_pos, tablet_below}
+use Rattle.token_ring.specs.Ring.{offset, tablet_at, first_offset, last_offset}
+use Rattle.token_ring.proofs.Offsets.{offset_below, offset_pos, tablet_below}
 use Rattle.replica_store.specs.declared.store.Stored.{Stored}
 use Rattle.replica_store.specs.Cells.{Cells, IsOrdered, is_within, is_inside, cell_at, range_cells, outside}
 use Rattle.replica_store.proofs.RankLemmas.{is_within-rank}
@@ -99,12 +99,12 @@ one_log2 a b same =
     ]
 
 -- the range of the one tablet has all tokens
-pub all_within : (range : TokenRange) → place range.first.value ≡ first_place 0 0 → place range.last.value ≡ last_place 0 0 → (t : TableId) (k : Token) → is_within t range t k ≡ true
+pub all_within : (range : TokenRange) → offset range.first.value ≡ first_offset 0 0 → offset range.last.value ≡ last_offset 0 0 → (t : TableId) (k : Token) → is_within t range t k ≡ true
 all_within range first last t k =
-    let above : 0 < place k.value = place_pos k.value k.is_token in
-    let below : place k.value < 2 ^ 64 = place_below k.value k.is_token in
-    let first_is : place range.first.value ≡ 1 = first in
-    let last_is : place range.last.value ≡ 2 ^ 64 - 1 = last in
+    let above : 0 < offset k.value = offset_pos k.value k.is_token in
+    let below : offset k.value < 2 ^ 64 = offset_below k.value k.is_token in
+    let first_is : offset range.first.value ≡ 1 = first in
+    let last_is : offset range.last.value ≡ 2 ^ 64 - 1 = last in
     is_within-rank t range t k ∙ grind (arith, nat_tests)
 
 module _ (whole : TokenRange) (all : (t : TableId) (k : Token) → is_within t whole t k ≡ true) where
@@ -139,7 +139,7 @@ module _ (whole : TokenRange) (all : (t : TableId) (k : Token) → is_within t w
     where
       same : (x : TableId × Stored) → (is_inside t whole x && true) ≡ ((x.0.0 == t.0) && (tablet_at 0 x.1.token.value == 0))
       same x =
-          let below : tablet_at 0 x.1.token.value < 2 ^ 0 = tablet_below 0 (place x.1.token.value) (omega arith) (place_below x.1.token.value x.1.token.is_token) in
+          let below : tablet_at 0 x.1.token.value < 2 ^ 0 = tablet_below 0 (offset x.1.token.value) (omega arith) (offset_below x.1.token.value x.1.token.is_token) in
           let only : (tablet_at 0 x.1.token.value == 0) ≡ true = grind (arith, nat_tests) in
           elim (x.0.0 == t.0) as (λ b. (x.0.0 == t.0) ≡ b → (is_inside t whole x && true) ≡ (b && (tablet_at 0 x.1.token.value == 0))) [
             | true ↦ λ own. rw (within_table t x own, only)

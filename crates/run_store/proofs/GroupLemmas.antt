@@ -8,8 +8,8 @@ use Rattle.std.proofs.lemmas.Nat.{le-div}
 use Rattle.std.proofs.Math.Nat.{div-mul-le_self}
 use Rattle.base_ids.specs.declared.ids.TableId.{TableId}
 use Rattle.cell_merge.specs.Cell.{cell_order}
-use Rattle.token_ring.specs.Ring.{place, width, tablet_at}
-use Rattle.token_ring.proofs.Places.{width_pos}
+use Rattle.token_ring.specs.Ring.{offset, width, tablet_at}
+use Rattle.token_ring.proofs.Offsets.{width_pos}
 use Rattle.token_ring.specs.declared.token.Token.{Token}
 use Rattle.token_ring.specs.declared.ring.TokenRange.{TokenRange}
 use Rattle.replica_store.specs.declared.store.Stored.{Stored}
@@ -20,16 +20,16 @@ use Rattle.replica_store.proofs.PutLemmas.{IsOrdered-put_at}
 use Rattle.replica_store.proofs.RangeLemmas.{IsOrdered-filter}
 use Rattle.run_store.specs.Runs.{Filled, of_table, run_cells, IsOfTablet, IsRun, AreRuns, IsGrouped, least_spare}
 
--- a lower place has no higher tablet
+-- a lower offset has no higher tablet
 pub tablet_mono : (log2 a b : ℕ) → a ≤ b → a / width log2 ≤ b / width log2
 tablet_mono log2 a b below = le-div (a / width log2) b (width log2) (width_pos log2) (let at_most : a / width log2 * width log2 ≤ a = div-mul-le_self a (width log2) in omega arith)
 
 -- of one table, the lower tablet comes first
 pub lower_first : (t : TableId) (log2 : ℕ) (a b : Token) → tablet_at log2 a.value < tablet_at log2 b.value → rank t a < rank t b
 lower_first t log2 a b lower =
-    elim (cases_lt (place a.value) (place b.value)) [
+    elim (cases_lt (offset a.value) (offset b.value)) [
       | inl below ↦ omega arith
-      | inr above ↦ absurd (let back = tablet_mono log2 (place b.value) (place a.value) (omega arith) in omega arith)
+      | inr above ↦ absurd (let back = tablet_mono log2 (offset b.value) (offset a.value) (omega arith) in omega arith)
     ]
 
 IsAfter-append : (first : ℕ) (xs ys : Cells) → IsAfter first xs → IsAfter first ys → IsAfter first (xs ++ ys)
@@ -67,11 +67,11 @@ AreRuns-set t log2 first [] i run are here = tt
 AreRuns-set t log2 first (r ∷ runs) zero run are here = let e : first + 0 ≡ first = omega arith in ((rw e at here), are.1)
 AreRuns-set t log2 first (r ∷ runs) (suc i) run are here = let e : first + suc i ≡ first + 1 + i = omega arith in (are.0, AreRuns-set t log2 (first + 1) runs i run are.1 (rw e at here))
 
--- tokens of one place have one tablet
+-- tokens of one offset have one tablet
 same_tablet : (t : TableId) (log2 : ℕ) (a b : Token) → is_same t a t b ≡ true → tablet_at log2 a.value ≡ tablet_at log2 b.value
 same_tablet t log2 a b same =
     let tests : (rank t a == rank t b) ≡ true = sym (is_same-rank t a t b) ∙ same in
-    let places : place a.value ≡ place b.value = grind (arith, nat_tests) in
+    let places : offset a.value ≡ offset b.value = grind (arith, nat_tests) in
     ap (λ p. p / width log2) places
 
 -- what has another tablet is not in a run

@@ -3,8 +3,8 @@ use Rattle.std.proofs.Common.{◌≡◌, ℕ, zero, suc, ◌+◌, ◌*◌, ◌/�
 use Rattle.std.proofs.lemmas.Bool.Decides.{nat_tests}
 use Rattle.std.proofs.lemmas.List.{take_more, take_all}
 use Rattle.base_ids.specs.declared.ids.TableId.{TableId}
-use Rattle.token_ring.specs.Ring.{place, width, first_place}
-use Rattle.token_ring.proofs.Places.{width_pos, width_half, in_tablet, tablet_low, tablet_high, parent_tablet, few_tablets}
+use Rattle.token_ring.specs.Ring.{offset, width, first_offset}
+use Rattle.token_ring.proofs.Offsets.{width_pos, width_half, in_tablet, tablet_low, tablet_high, parent_tablet, few_tablets}
 use Rattle.std.proofs.Math.Nat.{pow-suc}
 use Rattle.replica_store.specs.declared.store.Stored.{Stored}
 use Rattle.replica_store.specs.Cells.{Cells, IsOrdered, IsAfter, rank, rank_of}
@@ -25,31 +25,31 @@ child_right w v at b positive parent b_is above =
     let high : v < at * (2 * w) + 2 * w = tablet_high (2 * w) v at (omega arith) parent in
     in_tablet w v (2 * at + 1) positive (omega arith) (omega arith)
 
-tablet_left : (log2 v at b : ℕ) → log2 < 64 → v / width log2 ≡ at → b ≡ first_place (log2 + 1) (2 * at + 1) → v < b → v / width (log2 + 1) ≡ 2 * at
+tablet_left : (log2 v at b : ℕ) → log2 < 64 → v / width log2 ≡ at → b ≡ first_offset (log2 + 1) (2 * at + 1) → v < b → v / width (log2 + 1) ≡ 2 * at
 tablet_left log2 v at b few parent b_is below = child_left (width (log2 + 1)) v at b (width_pos (log2 + 1)) (ap (λ w. v / w) (sym (width_half log2 few)) ∙ parent) b_is below
 
-tablet_right : (log2 v at b : ℕ) → log2 < 64 → v / width log2 ≡ at → b ≡ first_place (log2 + 1) (2 * at + 1) → b ≤ v → v / width (log2 + 1) ≡ 2 * at + 1
+tablet_right : (log2 v at b : ℕ) → log2 < 64 → v / width log2 ≡ at → b ≡ first_offset (log2 + 1) (2 * at + 1) → b ≤ v → v / width (log2 + 1) ≡ 2 * at + 1
 tablet_right log2 v at b few parent b_is above = child_right (width (log2 + 1)) v at b (width_pos (log2 + 1)) (ap (λ w. v / w) (sym (width_half log2 few)) ∙ parent) b_is above
 
-left_own : (t : TableId) (log2 at : ℕ) (b : ℕ) (stored : List Stored) → log2 < 64 → b ≡ first_place (log2 + 1) (2 * at + 1) → IsOfTablet log2 at (of_table t stored) → IsOfTablet (log2 + 1) (2 * at) (of_table t (take (first_from (of_table t stored) (t.0 * 2 ^ 64 + b)) stored))
+left_own : (t : TableId) (log2 at : ℕ) (b : ℕ) (stored : List Stored) → log2 < 64 → b ≡ first_offset (log2 + 1) (2 * at + 1) → IsOfTablet log2 at (of_table t stored) → IsOfTablet (log2 + 1) (2 * at) (of_table t (take (first_from (of_table t stored) (t.0 * 2 ^ 64 + b)) stored))
 left_own t log2 at b [] few b_is own = tt
 left_own t log2 at b (s ∷ rest) few b_is own =
     elim (nat_lt (rank t s.token) (t.0 * 2 ^ 64 + b)) as (λ c. nat_lt (rank t s.token) (t.0 * 2 ^ 64 + b) ≡ c → IsOfTablet (log2 + 1) (2 * at) (of_table t (take (cond c (suc (first_from (of_table t rest) (t.0 * 2 ^ 64 + b))) 0) (s ∷ rest)))) [
-      | true ↦ λ before. (tablet_left log2 (place s.token.value) at b few own.0 b_is (grind (arith, nat_tests)), left_own t log2 at b rest few b_is own.1)
+      | true ↦ λ before. (tablet_left log2 (offset s.token.value) at b few own.0 b_is (grind (arith, nat_tests)), left_own t log2 at b rest few b_is own.1)
       | false ↦ λ behind. tt
     ] refl
 
-right_all : (t : TableId) (log2 at first : ℕ) (b : ℕ) (stored : List Stored) → log2 < 64 → b ≡ first_place (log2 + 1) (2 * at + 1) → t.0 * 2 ^ 64 + b ≤ first → IsAfter first (of_table t stored) → IsOfTablet log2 at (of_table t stored) → IsOfTablet (log2 + 1) (2 * at + 1) (of_table t stored)
+right_all : (t : TableId) (log2 at first : ℕ) (b : ℕ) (stored : List Stored) → log2 < 64 → b ≡ first_offset (log2 + 1) (2 * at + 1) → t.0 * 2 ^ 64 + b ≤ first → IsAfter first (of_table t stored) → IsOfTablet log2 at (of_table t stored) → IsOfTablet (log2 + 1) (2 * at + 1) (of_table t stored)
 right_all t log2 at first b [] few b_is reached after own = tt
 right_all t log2 at first b (s ∷ rest) few b_is reached after own =
-    (tablet_right log2 (place s.token.value) at b few own.0 b_is (omega (arith, after.0)), right_all t log2 at first b rest few b_is reached after.1 own.1)
+    (tablet_right log2 (offset s.token.value) at b few own.0 b_is (omega (arith, after.0)), right_all t log2 at first b rest few b_is reached after.1 own.1)
 
-right_own : (t : TableId) (log2 at : ℕ) (b : ℕ) (stored : List Stored) → log2 < 64 → b ≡ first_place (log2 + 1) (2 * at + 1) → IsOrdered (of_table t stored) → IsOfTablet log2 at (of_table t stored) → IsOfTablet (log2 + 1) (2 * at + 1) (of_table t (drop (first_from (of_table t stored) (t.0 * 2 ^ 64 + b)) stored))
+right_own : (t : TableId) (log2 at : ℕ) (b : ℕ) (stored : List Stored) → log2 < 64 → b ≡ first_offset (log2 + 1) (2 * at + 1) → IsOrdered (of_table t stored) → IsOfTablet log2 at (of_table t stored) → IsOfTablet (log2 + 1) (2 * at + 1) (of_table t (drop (first_from (of_table t stored) (t.0 * 2 ^ 64 + b)) stored))
 right_own t log2 at b [] few b_is ordered own = tt
 right_own t log2 at b (s ∷ rest) few b_is ordered own =
     elim (nat_lt (rank t s.token) (t.0 * 2 ^ 64 + b)) as (λ c. nat_lt (rank t s.token) (t.0 * 2 ^ 64 + b) ≡ c → IsOfTablet (log2 + 1) (2 * at + 1) (of_table t (drop (cond c (suc (first_from (of_table t rest) (t.0 * 2 ^ 64 + b))) 0) (s ∷ rest)))) [
       | true ↦ λ before. right_own t log2 at b rest few b_is ordered.1 own.1
-      | false ↦ λ behind. (tablet_right log2 (place s.token.value) at b few own.0 b_is (grind (arith, nat_tests)), right_all t log2 at (rank t s.token) b rest few b_is (grind (arith, nat_tests)) ordered.0 own.1)
+      | false ↦ λ behind. (tablet_right log2 (offset s.token.value) at b few own.0 b_is (grind (arith, nat_tests)), right_all t log2 at (rank t s.token) b rest few b_is (grind (arith, nat_tests)) ordered.0 own.1)
     ] refl
 
 IsAfter-take : (first n : ℕ) (xs : Cells) → IsAfter first xs → IsAfter first (take n xs)
@@ -62,16 +62,16 @@ IsOrdered-take zero xs ordered = tt
 IsOrdered-take (suc n) [] ordered = tt
 IsOrdered-take (suc n) (x ∷ xs) ordered = (IsAfter-take (rank_of x) n xs ordered.0, IsOrdered-take n xs ordered.1)
 
-pub left_run : (t : TableId) (log2 at cut : ℕ) (stored : List Stored) → log2 < 10 → cut ≡ first_from (of_table t stored) (t.0 * 2 ^ 64 + first_place (log2 + 1) (2 * at + 1)) → IsRun log2 at (of_table t stored) → IsRun (log2 + 1) (2 * at) (of_table t (take cut stored))
+pub left_run : (t : TableId) (log2 at cut : ℕ) (stored : List Stored) → log2 < 10 → cut ≡ first_from (of_table t stored) (t.0 * 2 ^ 64 + first_offset (log2 + 1) (2 * at + 1)) → IsRun log2 at (of_table t stored) → IsRun (log2 + 1) (2 * at) (of_table t (take cut stored))
 left_run t log2 at cut stored few cut_is run = record {
   ordered = rw (of_table-take t cut stored) (IsOrdered-take cut (of_table t stored) run.ordered);
-  own = rw cut_is (left_own t log2 at (first_place (log2 + 1) (2 * at + 1)) stored (omega arith) refl run.own);
+  own = rw cut_is (left_own t log2 at (first_offset (log2 + 1) (2 * at + 1)) stored (omega arith) refl run.own);
 }
 
-pub right_run : (t : TableId) (log2 at cut : ℕ) (stored : List Stored) → log2 < 10 → cut ≡ first_from (of_table t stored) (t.0 * 2 ^ 64 + first_place (log2 + 1) (2 * at + 1)) → IsRun log2 at (of_table t stored) → IsRun (log2 + 1) (2 * at + 1) (of_table t (drop cut stored))
+pub right_run : (t : TableId) (log2 at cut : ℕ) (stored : List Stored) → log2 < 10 → cut ≡ first_from (of_table t stored) (t.0 * 2 ^ 64 + first_offset (log2 + 1) (2 * at + 1)) → IsRun log2 at (of_table t stored) → IsRun (log2 + 1) (2 * at + 1) (of_table t (drop cut stored))
 right_run t log2 at cut stored few cut_is run = record {
   ordered = IsOrdered-behind t stored cut run.ordered;
-  own = rw cut_is (right_own t log2 at (first_place (log2 + 1) (2 * at + 1)) stored (omega arith) refl run.ordered run.own);
+  own = rw cut_is (right_own t log2 at (first_offset (log2 + 1) (2 * at + 1)) stored (omega arith) refl run.ordered run.own);
 }
 
 pub AreRuns-push : (t : TableId) (log2 first : ℕ) (runs : List Filled) (run : Filled) → AreRuns t log2 first runs → IsRun log2 (first + length runs) (of_table t run.stored) → AreRuns t log2 first (runs ++ run ∷ [])
@@ -107,7 +107,7 @@ pairs_more t runs pairs i left right joined within left_read right_read both sam
 IsOfTablet-parent : (t : TableId) (log2 at child : ℕ) (stored : List Stored) → log2 < 64 → child / 2 ≡ at → IsOfTablet (log2 + 1) child (of_table t stored) → IsOfTablet log2 at (of_table t stored)
 IsOfTablet-parent t log2 at child [] few parent own = tt
 IsOfTablet-parent t log2 at child (s ∷ rest) few parent own =
-    (sym (parent_tablet log2 (place s.token.value) few) ∙ ap (λ n. n / 2) own.0 ∙ parent, IsOfTablet-parent t log2 at child rest few parent own.1)
+    (sym (parent_tablet log2 (offset s.token.value) few) ∙ ap (λ n. n / 2) own.0 ∙ parent, IsOfTablet-parent t log2 at child rest few parent own.1)
 
 IsOfTablet-append : (log2 tablet : ℕ) (xs ys : Cells) → IsOfTablet log2 tablet xs → IsOfTablet log2 tablet ys → IsOfTablet log2 tablet (xs ++ ys)
 IsOfTablet-append log2 tablet [] ys left right = right

@@ -9,7 +9,7 @@ use Rattle.replica_store.specs.declared.store.Stored.{Stored}
 use Rattle.replica_store.specs.Cells.{Cells, IsOrdered, rank, rank_of, cell_at, range_cells, outside}
 use Rattle.replica_store.specs.Columns.{first_from, begins_at, start_of, end_of, put_at}
 use Rattle.replica_store.proofs.OrderLemmas.{first_from-le, before_first, from_first}
-use Rattle.replica_store.proofs.ColumnLemmas.{begins_at-index, begins_at-past, begins_at-within}
+use Rattle.replica_store.proofs.ColumnLemmas.{IsOrdered-drop, begins_at-index, begins_at-past, begins_at-within}
 use Rattle.replica_store.proofs.PutLemmas.{cell_at-found, greater, put_at-found, put_at-missing}
 use Rattle.replica_store.proofs.RangeLemmas.{wanted-run, outside-run}
 use Rattle.run_store.specs.Runs.{of_table}
@@ -48,11 +48,6 @@ get_or-of_table table stored i s within is = at table stored i s ∙ ap (λ (x :
     at table [] i s = refl
     at table (x ∷ rest) zero s = refl
     at table (x ∷ rest) (suc i) s = at table rest i s
-
-IsOrdered-drop : (n : ℕ) (xs : Cells) → IsOrdered xs → IsOrdered (drop n xs)
-IsOrdered-drop zero xs ordered = ordered
-IsOrdered-drop (suc n) [] ordered = tt
-IsOrdered-drop (suc n) (x ∷ xs) ordered = IsOrdered-drop n xs ordered.1
 
 pub IsOrdered-behind : (table : TableId) (stored : List Stored) (n : ℕ) → IsOrdered (of_table table stored) → IsOrdered (of_table table (drop n stored))
 IsOrdered-behind table stored n ordered = rw (of_table-drop table n stored) (IsOrdered-drop n (of_table table stored) ordered)

@@ -9,12 +9,12 @@ use Rattle.token_ring.specs.declared.token.Token.{Token}
 use Rattle.token_ring.specs.declared.ring.TokenRange.{TokenRange}
 use Rattle.token_ring.specs.Ring.{tablet_at}
 use Rattle.replica_store.specs.declared.store.Stored.{Stored}
-use Rattle.replica_store.specs.Cells.{Cells, IsOrdered, IsAfter, rank, rank_of, is_same, is_within, is_inside, is_above, cell_at, only_at, range_cells, outside}
+use Rattle.replica_store.specs.Cells.{Cells, IsOrdered, rank, rank_of, is_same, is_within, is_inside, is_above, cell_at, only_at, range_cells, outside}
 use Rattle.replica_store.specs.Columns.{put_at}
 use Rattle.replica_store.proofs.RankLemmas.{is_same-rank}
 use Rattle.replica_store.proofs.PutLemmas.{IsOrdered-put_at, cell_at-put_at}
 use Rattle.replica_store.proofs.RangeLemmas.{IsOrdered-filter}
-use Rattle.replica_store.proofs.MapLemmas.{one_list}
+use Rattle.replica_store.proofs.MapLemmas.{cell_at-after, one_list}
 use Rattle.run_store.specs.Runs.{tablet_cells}
 use Rattle.run_store.specs.Tables.{Grouped, IsOfTable, IsGrouped, AreTables, put_all, without, store_cells, cells_of, index_of, log2s_of, least_room}
 
@@ -29,13 +29,6 @@ none-greater_cell : (a : Option Cell) → greater_cell None a ≡ a
 none-greater_cell None = refl
 none-greater_cell (Some a) = refl
 
--- what stands behind a cell has another place
-cell_at-behind : (xs : Cells) (t : TableId) (k : Token) (first : ℕ) → IsAfter first xs → rank t k ≤ first → cell_at xs t k ≡ None
-cell_at-behind [] t k first after below = refl
-cell_at-behind (x ∷ xs) t k first after below =
-    let other : is_same x.0 x.1.token t k ≡ false = is_same-rank x.0 x.1.token t k ∙ grind (arith, nat_tests, after.0) in
-    rw other (cell_at-behind xs t k first after.1 below)
-
 IsOrdered-put_all : (es xs : Cells) → IsOrdered xs → IsOrdered (put_all es xs)
 IsOrdered-put_all [] xs ordered = ordered
 IsOrdered-put_all (e ∷ es) xs ordered = IsOrdered-put_at (put_all es xs) e (IsOrdered-put_all es xs ordered)
@@ -49,7 +42,7 @@ cell_at-put_all (e ∷ es) xs t k in_order ordered =
     elim (is_same e.0 e.1.token t k) as (λ b. is_same e.0 e.1.token t k ≡ b → greater_cell (greater_cell (cell_at xs t k) (cell_at es t k)) (cond b (Some e.1.cell) None) ≡ greater_cell (cell_at xs t k) (cond b (Some e.1.cell) (cell_at es t k))) [
       | true ↦ λ same.
           let tests : (rank_of e == rank t k) ≡ true = sym (is_same-rank e.0 e.1.token t k) ∙ same in
-          let none : cell_at es t k ≡ None = cell_at-behind es t k (rank_of e) in_order.0 (grind (arith, nat_tests)) in
+          let none : cell_at es t k ≡ None = cell_at-after es t k (rank_of e) in_order.0 (grind (arith, nat_tests)) in
           rw (none, greater_cell-none (cell_at xs t k))
       | false ↦ λ other. greater_cell-none (greater_cell (cell_at xs t k) (cell_at es t k))
     ] refl)

@@ -4,8 +4,8 @@ use Rattle.std.proofs.lemmas.Bool.Decides.{nat_tests}
 use Rattle.std.proofs.lemmas.List.{map-append}
 use Rattle.std.proofs.lemmas.List.Elements.{filter-append}
 use Rattle.base_ids.specs.declared.ids.TableId.{TableId}
-use Rattle.token_ring.specs.Ring.{place, tablet_at}
-use Rattle.token_ring.proofs.Places.{place_below, tablet_below}
+use Rattle.token_ring.specs.Ring.{offset, tablet_at}
+use Rattle.token_ring.proofs.Offsets.{offset_below, tablet_below}
 use Rattle.replica_store.specs.declared.store.Stored.{Stored}
 use Rattle.replica_store.specs.Cells.{Cells, IsOrdered}
 use Rattle.run_store.specs.Runs.{Filled, of_table, run_cells, IsOfTablet, AreRuns, IsGrouped, tablet_cells}
@@ -14,7 +14,7 @@ use Rattle.run_store.specs.Runs.{Filled, of_table, run_cells, IsOfTablet, AreRun
 pub one_tablet : (t : TableId) (stored : List Stored) → IsOfTablet 0 0 (of_table t stored)
 one_tablet t [] = tt
 one_tablet t (s ∷ rest) =
-    let below : tablet_at 0 s.token.value < 2 ^ 0 = tablet_below 0 (place s.token.value) (omega arith) (place_below s.token.value s.token.is_token) in
+    let below : tablet_at 0 s.token.value < 2 ^ 0 = tablet_below 0 (offset s.token.value) (omega arith) (offset_below s.token.value s.token.is_token) in
     (omega arith, one_tablet t rest)
 
 pub single_run : (t : TableId) (stored : List Stored) (run : Filled) → IsOrdered (of_table t stored) → run.stored ≡ stored → IsGrouped t 0 (run ∷ [])

@@ -1,6 +1,6 @@
 //! What a store lends of the runs of a table: the first cells of a range, of one run alone.
 ghost use Rattle.std.specs.Prelude.{ℕ, ◌≡◌, ◌↔◌, ◌⊎◌, ◌+◌, ◌^◌, ◌<◌, ◌≤◌, [], length, take, slice_index_or, nat_lt, IsTrue};
-ghost use Rattle.token_ring.specs.Ring.{place, tablet_at};
+ghost use Rattle.token_ring.specs.Ring.{offset, tablet_at};
 ghost use Rattle.replica_store.specs.Cells.{range_cells, rank};
 ghost use Rattle.replica_store.specs.Columns.{start_of};
 ghost use Rattle.run_store.specs.Runs.{Filled, of_table, run_cells, first_run_cells, AreOrdered, AreRuns, IsGrouped};
@@ -47,7 +47,7 @@ pub fn chunk(
 
 /// A token that no cell of the range above `after` is below: the greater one of `after` and of the range's first.
 fn first_asked(range: TokenRange, after: Option<Token>) -> Token
-    ensures above_first { place range.first.value ≤ place result.value }
+    ensures above_first { offset range.first.value ≤ offset result.value }
     ensures asked { (table : _) → rank table result ≤ start_of table range after }
 {
     match after {

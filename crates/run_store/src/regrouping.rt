@@ -1,7 +1,7 @@
 //! The runs of a table for twice or half as many tablets, copied.
 ghost use Rattle.std.specs.Prelude.{◌≡◌, ℕ, ◌+◌, ◌*◌, ◌^◌, ◌<◌, ◌++◌, IfOk};
 ghost use Rattle.base_ids.specs.declared.ids.TableId.{TableId};
-ghost use Rattle.token_ring.specs.Ring.{first_place};
+ghost use Rattle.token_ring.specs.Ring.{first_offset};
 ghost use Rattle.run_store.specs.Runs.{of_table, run_cells, IsRun, IsGrouped};
 
 use crate::run::{self, Run};
@@ -64,7 +64,7 @@ fn halves_of(table: TableId, log2: u8, at: usize, stored: &[Stored]) -> (&[Store
 fn boundary_of(table: TableId, log2: u8, at: usize) -> u128
     requires few { log2 < 10 }
     requires tablet { at < 2 ^ log2 }
-    ensures { result ≡ table.0 * 2 ^ 64 + first_place (log2 + 1) (2 * at + 1) }
+    ensures { result ≡ table.0 * 2 ^ 64 + first_offset (log2 + 1) (2 * at + 1) }
 {
     let (_, right) = children(TabletId(at as u32));
     rank(table, range_of(log2 + 1, right).first)

@@ -1,6 +1,6 @@
 -- Whatever the words of a line are, whom it names is in the opening, what it would create is of a fit size, and it names only
 -- messages of lines that have labels.
-use Rattle.std.proofs.Common.{Bool, List, None, Ok, Option, Result, Some, [], ap, arith, false, length, nat_le, nat_lt, refl, subst, true, ℕ, ◌&&◌, ◌++◌, ◌+◌, ◌<◌, ◌∷◌, ◌≡◌, ◌≤◌}
+use Rattle.std.proofs.Common.{Bool, List, None, Ok, Option, Result, Some, [], arith, false, length, nat_le, nat_lt, subst, true, ℕ, ◌&&◌, ◌++◌, ◌+◌, ◌<◌, ◌∷◌, ◌≡◌, ◌≤◌}
 use Rattle.std.proofs.lemmas.Bool.Decides.{nat_tests}
 use Rattle.std.proofs.lemmas.Grind.{common_steps}
 use Rattle.barrier_core.specs.declared.data.What.{What}
@@ -43,9 +43,10 @@ use Rattle.schedule_words.specs.Labels.{LineOf}
 use Rattle.schedule_words.specs.Places.{by_entry, by_label, has_lane, host, lane, log2, next_replica, reference}
 use Rattle.schedule_words.specs.Words.{is_letter}
 use Rattle.schedule_words.specs.declared.counts.Counts.{Counts}
-use Rattle.text_grammar.proofs.TellLaws.{AllTell, all_tell, each_keeps, is_so, is_within}
+use Rattle.text_grammar.proofs.Numerals.{both_true}
+use Rattle.text_grammar.proofs.TellLaws.{AllTell, all_tell, each_keeps, is_so, is_within, told_count}
 use Rattle.text_grammar.specs.Readings.{or_rule}
-use Rattle.text_grammar.specs.Shapes.{AreEach, Each, Either, End, EndOr, Is, Made, Place, Shape, Spells, Whole, Word, begins_with}
+use Rattle.text_grammar.specs.Shapes.{Each, Either, End, EndOr, Is, Made, Shape, Spells, Whole, Word, begins_with}
 use Rattle.text_grammar.specs.declared.faults.Fault.{Fault}
 use Rattle.text_grammar.specs.declared.faults.TextRule.TheVariants.{BadActor, NoLabel}
 use Rattle.topo_state.specs.Rules.{IsFit}
@@ -67,11 +68,6 @@ below n limit e = grind (arith, nat_tests)
 within : (n limit : ℕ) → nat_le n limit ≡ true → n ≤ limit
 within n limit e = grind (arith, nat_tests)
 
-both : (a b : Bool) → (a && b) ≡ true → (a ≡ true) × (b ≡ true)
-both true true e = (refl, refl)
-both true false e = cc
-both false b e = cc
-
 host_in : (opening : Opening) (counts : Counts) → AreCountsOf opening counts → (w : List ℕ) (h : HostId) → Is (host counts.hosts) w h → HasHost opening h
 unfolding host
 host_in opening counts same w h is =
@@ -82,7 +78,7 @@ lane_in : (opening : Opening) (counts : Counts) → AreCountsOf opening counts �
 unfolding lane
 lane_in opening counts same w l is =
     let told = is_so (has_lane counts is.0) BadActor is.0 l is.2 in
-    let tests = both (nat_lt is.0.host.0 counts.hosts) (nat_lt is.0.lane counts.lanes) told.0 in
+    let tests = both_true (nat_lt is.0.host.0 counts.hosts) (nat_lt is.0.lane counts.lanes) told.0 in
     subst
     (HasLane opening)
     told.1 (
@@ -123,17 +119,10 @@ one_more earlier w r few is =
     let room : length earlier < 8 = below (length earlier) 8 told.0 in
     grind (arith, common_steps)
 
-as_many : {B : Type 0} (place : List B → Place B) (earlier : List B) (words : List (List ℕ)) (all : List B) → AreEach place earlier words all → length all ≡ length earlier + length words
-as_many place earlier [] all are = let e : length all ≡ length earlier = ap length are in omega arith
-as_many place earlier (word ∷ words) all are =
-    let more : length all ≡ length (earlier ++ are.0 ∷ []) + length words = as_many place (earlier ++ are.0 ∷ []) words all are.2 in
-    let one : length (earlier ++ are.0 ∷ []) ≡ length earlier + 1 = grind (arith, common_steps) in
-    omega arith
-
 create_fit : AllTell IsFit create
 unfolding create
 create_fit = λ w t is v b js ws all some are.
-    let count : length all ≡ 0 + length ws = as_many next_replica [] ws all are in
+    let count : length all ≡ 0 + length ws = told_count next_replica [] ws all are in
     let one : 1 ≤ length all = omega arith in (
       log2_few v b js,
       one,

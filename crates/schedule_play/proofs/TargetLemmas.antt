@@ -1,7 +1,7 @@
 -- Whom a request asks is a host of the opening.
 use Rattle.std.proofs.Common.{ap, refl, subst, sym, ◌∙◌, inl, inr}
 use Rattle.std.specs.Prelude.{Bool, IfSome, List, None, Option, Some, [], false, if◌then◌else◌, reverse, slice_get, true, ℕ, ◌==◌, ◌||◌, ◌∷◌, ◌≡◌}
-use Rattle.base_ids.specs.Replicas.{has_host, has_replica, is_on, same_replica}
+use Rattle.base_ids.specs.Replicas.{has_replica}
 use Rattle.base_ids.specs.declared.ids.HostId.{HostId}
 use Rattle.base_ids.specs.declared.ids.LaneId.{LaneId}
 use Rattle.base_ids.specs.declared.ids.MsgRef.{MsgRef}
@@ -28,7 +28,6 @@ use Rattle.cluster_history.specs.declared.data.Output.TheVariants.{Proposed, Pul
 use Rattle.group0_log.specs.Log.{IsLegalLog}
 use Rattle.history_facts.proofs.EntryLemmas.{next_at}
 use Rattle.history_facts.proofs.HostLemmas.{log_legal}
-use Rattle.history_facts.proofs.NameLemmas.{both_true}
 use Rattle.history_facts.proofs.SentLemmas.{Sends, sends}
 use Rattle.history_facts.proofs.SentLemmas.Sends.{sends_ask, sends_chunk, sends_chunk_ask, sends_cleaned, sends_fact, sends_found, sends_not_mine, sends_question, sends_written}
 use Rattle.log_law.proofs.StateLemmas.{topology_with}
@@ -46,6 +45,7 @@ use Rattle.history_facts.specs.Prefixes.{history_before}
 use Rattle.schedule_play.proofs.MemberLemmas.{member_with}
 use Rattle.schedule_play.specs.Moves.{ask_at, asked_by, asked_in, live_target, target_of}
 use Rattle.schedule_play.specs.declared.moves.Target.{Target}
+use Rattle.tablet_map.proofs.Members.{host_of}
 
 -- the host that is asked, if one is, is in the opening
 abbrev IsWithin : Opening → Option (OpId × HostId) → Type 0
@@ -59,19 +59,10 @@ or_second : (b c : Bool) → c ≡ true → (b || c) ≡ true
 or_second true c e = refl
 or_second false c e = e
 
--- a replica that is in a list has its host there
-pub on_host : (replicas : List Replica) (to : Replica) → has_replica replicas to ≡ true → has_host replicas to.host ≡ true
-on_host [] to is = cc is
-on_host (replica ∷ replicas) to is =
-    elim (same_replica to replica) as (λ (b : Bool). same_replica to replica ≡ b → (b || has_replica replicas to) ≡ true → (is_on to.host replica || has_host replicas to.host) ≡ true) [
-      | true ↦ λ here e. or_first (is_on to.host replica) (has_host replicas to.host) (both_true (to.host.0 == replica.host.0) (to.shard.0 == replica.shard.0) here).0
-      | false ↦ λ here e. or_second (is_on to.host replica) (has_host replicas to.host) (on_host replicas to e)
-    ] refl is
-
 -- a target of a sound tablet on members is on one
 target_member : (members : List HostId) (kind : Kind) (tablet : Tablet) (to : Replica) → IsSoundView members tablet → has_replica (targets_of kind tablet) to ≡ true → is_member members to.host ≡ true
-target_member members ReadKind tablet to sound is = sound.within (reads (stage_in tablet)) to.host (on_host (targets_of ReadKind tablet) to is)
-target_member members WriteKind tablet to sound is = sound.within (writes (stage_in tablet)) to.host (on_host (targets_of WriteKind tablet) to is)
+target_member members ReadKind tablet to sound is = sound.within (reads (stage_in tablet)) to.host (host_of (targets_of ReadKind tablet) to is)
+target_member members WriteKind tablet to sound is = sound.within (writes (stage_in tablet)) to.host (host_of (targets_of WriteKind tablet) to is)
 
 seen_target : (state : Topology) (kind : Kind) (operation : Operation) (shown : Option Tablet) (route : Route) (to : Replica)
     → ((tablet : Tablet) → shown ≡ Some tablet → IsSoundView state.members tablet)

@@ -1,11 +1,11 @@
 //! The chunk that a host sends.
-ghost use Rattle.std.specs.Prelude.{◌≡◌, ◌++◌, ◌≤◌, take, length, nat_lt, IfOk, OnOk};
+ghost use Rattle.std.specs.Prelude.{◌≡◌, ◌≤◌, take, length, nat_lt, IfOk};
 ghost use Rattle.replica_store.specs.Cells.{range_cells};
 ghost use Rattle.stream_core.specs.Pulls.{most_cells, served_chunk};
 
 use crate::data::{ChunkAsk, ChunkMsg};
 use base_ids::NoMemory;
-use replica_store::{Chunk, Store, Stored, StoredList};
+use replica_store::{Chunk, Store, StoredList, append_cells};
 use std::alloc::Global;
 
 /// A chunk has at most so many cells.
@@ -42,7 +42,7 @@ fn first_cells<S: Store>(
     let mut room = MOST_CELLS;
     'gathering: loop {
         let Chunk { cells, more } = store.chunk(ask.table, ask.range, after, room);
-        append(&mut list, cells)?;
+        append_cells(&mut list, cells)?;
         room -= cells.len();
         if !more || room == 0 {
             return Ok((list, more));
@@ -52,14 +52,4 @@ fn first_cells<S: Store>(
             None => unreachable!(),
         }
     }
-}
-
-/// Adds cells at the end of a list.
-fn append(list: &mut StoredList, cells: &[Stored]) -> Result<(), NoMemory>
-    ensures { OnOk result (list.new ≡ list.old ++ cells.now) }
-{
-    for stored in cells {
-        list.push(*stored)?;
-    }
-    Ok(())
 }

@@ -2,6 +2,7 @@
 use Rattle.std.proofs.Common.{ap, refl, sym, ◌∙◌}
 use Rattle.std.specs.Prelude.{Some, true, ◌≡◌}
 use Rattle.answer_law.proofs.PrefixLemmas.{kept_since, sent_by}
+use Rattle.answer_law.proofs.WrittenLemmas.{chunk_same}
 use Rattle.base_ids.specs.declared.ids.HostId.{HostId}
 use Rattle.base_ids.specs.declared.ids.MsgRef.{MsgRef}
 use Rattle.cluster_history.proofs.HeldLemmas.{cell_at-held_cells, held_cells-ordered}
@@ -42,9 +43,6 @@ pub record IsServedBy (opening : Opening) (earlier : History) (event : Event) (c
   pub asked : message_at earlier asked_at ≡ Some (ChunkAskSent ask)
   pub to_is : ask.to ≡ host
   pub source : chunk ≡ served_chunk (held_cells opening earlier host) ask
-
-chunk_same : (a b : ChunkMsg) → ChunkSent a ≡ ChunkSent b → a ≡ b
-chunk_same a b e = cc e
 
 pub served_by :
     (opening : Opening) (earlier : History) (event : Event) (message : Message) (chunk : ChunkMsg) →

@@ -36,6 +36,7 @@ use Rattle.topo_state.specs.declared.moves.Move.{Move}
 use Rattle.stream_law.proofs.MoveLemmas.{streamed-later, streaming_is}
 use Rattle.stream_law.specs.Laws.{ChunkAsksAreOfMoves, PullsAreOfMoves}
 use Rattle.stream_law.specs.Streams.{IsAskOfMove, IsPullOfMove}
+use Rattle.answer_law.proofs.PullLemmas.{either}
 
 -- ---- pulls
 
@@ -98,10 +99,6 @@ after_chunk opening history host session pull chunk was =
       }
       | false ↦ was
     ]
-
-either : {X : Type 0} (a b : Option X) (x : X) → option_or a b ≡ Some x → (a ≡ Some x) ⊎ (b ≡ Some x)
-either None b x e = inr e
-either (Some a) b x e = inl e
 
 -- the pull that a pull event goes on with, or begins
 pub going_on :

@@ -73,7 +73,7 @@ pub enough_said : (opening : Opening) (history : History) (entry : Entry) (lane 
 enough_said opening history entry lane op request new begun =
     at_least request.need (written_count (entry ∷ history) lane op request.targets) (ap (has_enough (entry ∷ history) lane op) (sym begun) ∙ new.enough)
 
-begun-rises : (history : History) (entry : Entry) (lane : LaneId) → begun_count history lane ≤ begun_count (entry ∷ history) lane
+pub begun-rises : (history : History) (entry : Entry) (lane : LaneId) → begun_count history lane ≤ begun_count (entry ∷ history) lane
 begun-rises history entry lane =
     elim (is_begin_of lane entry.event) as (λ b. begun_count history lane ≤ (if b then begun_count history lane + 1 else begun_count history lane)) [ true ↦ omega arith | false ↦ omega arith ]
 

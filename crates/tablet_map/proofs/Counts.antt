@@ -11,7 +11,7 @@ use Rattle.tablet_map.proofs.Members.{same_is, is_same, all_of, host_of}
 abbrev pub one_if : Bool → ℕ
 one_if b = cond b 1 0
 
-count_first : (test : Replica → Bool) (r : Replica) (rest : List Replica) → count_by test (r ∷ rest) ≡ one_if (test r) + count_by test rest
+pub count_first : (test : Replica → Bool) (r : Replica) (rest : List Replica) → count_by test (r ∷ rest) ≡ one_if (test r) + count_by test rest
 count_first test r rest = sum_by-cons (λ x. cond (test x) 1 0) r rest
 
 -- one more behind the list

@@ -9,8 +9,8 @@ use Rattle.std.specs.Prelude.{ℤ, Ok}
 use Rattle.std.proofs.Common.{inl, inr}
 use Rattle.std.proofs.lemmas.Bool.{cases_lt}
 use Rattle.token_ring.specs.declared.token.Token.{Token}
-use Rattle.token_ring.specs.Ring.{place, tablet_at}
-use Rattle.token_ring.proofs.Places.{tablet_below, place_below, parent_tablet}
+use Rattle.token_ring.specs.Ring.{offset, tablet_at}
+use Rattle.token_ring.proofs.Offsets.{tablet_below, offset_below, parent_tablet}
 use Rattle.tablet_map.specs.Tablets.{is_moving}
 use Rattle.tablet_map.specs.Calls.{MergeEnds}
 use Rattle.tablet_map.specs.Sets.{replicas_at}
@@ -58,7 +58,7 @@ split_then_merge tablets none =
 pub split_keeps : (tablets : Tablets) (token : ℤ) → tablets.log2 < 10 → replicas_at (split_of tablets) token ≡ replicas_at tablets token
 split_keeps tablets token below =
     ap (λ (t : Tablet). t.replicas)
-    (both_at tablets.list (tablet_at (tablets.log2 + 1) token) ∙ ap (tablet_in tablets.list) (parent_tablet tablets.log2 (place token) (omega arith)))
+    (both_at tablets.list (tablet_at (tablets.log2 + 1) token) ∙ ap (tablet_in tablets.list) (parent_tablet tablets.log2 (offset token) (omega arith)))
 
 merged_half : (tablets : Tablets) (half at : ℕ) → least_apart tablets.list ≡ None → half < length tablets.list / 2 → half ≡ at / 2 → same_set (tablet_in (merge_of tablets).list half).replicas (tablet_in tablets.list at).replicas ≡ true
 merged_half tablets half at none below e =
@@ -72,7 +72,7 @@ pub merge_keeps : (tablets : Tablets) (token : Token) → IsMap tablets.log2 tab
 merge_keeps tablets token is_map above none =
     let e : tablets.log2 - 1 + 1 ≡ tablets.log2 = omega arith in
     let pow : 2 ^ tablets.log2 ≡ 2 * 2 ^ (tablets.log2 - 1) = (rw e at (twice (tablets.log2 - 1))) in
-    let at : tablet_at tablets.log2 token.value < 2 ^ tablets.log2 = tablet_below tablets.log2 (place token.value) (omega (arith, is_map.few)) (place_below token.value token.is_token) in
+    let at : tablet_at tablets.log2 token.value < 2 ^ tablets.log2 = tablet_below tablets.log2 (offset token.value) (omega (arith, is_map.few)) (offset_below token.value token.is_token) in
     let half : tablet_at tablets.log2 token.value / 2 ≡ tablet_at (tablets.log2 - 1) token.value =
-    (rw e at (parent_tablet (tablets.log2 - 1) (place token.value) (omega (arith, is_map.few)))) in
+    (rw e at (parent_tablet (tablets.log2 - 1) (offset token.value) (omega (arith, is_map.few)))) in
     merged_half tablets (tablet_at (tablets.log2 - 1) token.value) (tablet_at tablets.log2 token.value) none (omega (arith, is_map.count)) (sym half)

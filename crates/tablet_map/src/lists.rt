@@ -1,13 +1,13 @@
 //! The calls of the map, over its lists.
 ghost use Rattle.std.specs.Prelude.{◌≡◌, ◌≤◌, ◌<◌, length, IfOk, map, option_map, position, replicate, take, ◌/◌, ◌*◌, ◌+◌, IfSome};
 ghost use Rattle.std.specs.List.{flat_map, list_all};
-ghost use Rattle.base_ids.specs.Replicas.{same_replica, has_replica};
+ghost use Rattle.base_ids.specs.Replicas.{has_replica};
 ghost use Rattle.tablet_map.specs.Replicas.{replaced_list, same_set};
 ghost use Rattle.tablet_map.specs.Tablets.{tablet_in, has_session};
 ghost use Rattle.tablet_map.specs.Calls.{at_rest, both, pairs, least_moving, least_apart};
 
 use crate::tablet::Tablet;
-use base_ids::{NoMemory, Replica, ReplicaList, Session};
+use base_ids::{NoMemory, Replica, ReplicaList, Session, has_replica, place_of_replica};
 use std::alloc::Global;
 
 /// The place of the first tablet whose transition has this session.
@@ -26,22 +26,6 @@ pub(crate) fn place_of_moving(tablets: &[Tablet]) -> Option<usize>
     tablets.iter().position(|tablet| tablet.is_moving())
 }
 
-/// The place of a replica in a list.
-fn place_of_replica(replicas: &[Replica], sought: Replica) -> Option<usize>
-    ensures { result ≡ position (same_replica sought) replicas.now }
-{
-    replicas
-        .iter()
-        .position(|replica| is_same(sought, *replica))
-}
-
-/// Whether two replicas are one shard of one host.
-fn is_same(a: Replica, b: Replica) -> bool
-    ensures { result ≡ same_replica a b }
-{
-    a == b
-}
-
 /// Puts the pending replica into the leaving one's place.
 pub(crate) fn replace(replicas: &mut ReplicaList, leaving: Replica, pending: Replica)
     ensures { replicas.new ≡ replaced_list leaving pending replicas.old }
@@ -51,18 +35,11 @@ pub(crate) fn replace(replicas: &mut ReplicaList, leaving: Replica, pending: Rep
     }
 }
 
-/// Whether a replica is in a list.
-fn is_in(replicas: &[Replica], sought: Replica) -> bool
-    ensures { result ≡ has_replica replicas.now sought }
-{
-    replicas.iter().any(|replica| is_same(sought, *replica))
-}
-
 /// Whether all replicas of a list are in another.
 fn are_in(replicas: &[Replica], others: &[Replica]) -> bool
     ensures { result ≡ list_all (has_replica others.now) replicas.now }
 {
-    replicas.iter().all(|replica| is_in(others, *replica))
+    replicas.iter().all(|replica| has_replica(others, *replica))
 }
 
 /// Whether two lists are the same as sets. Takes no memory.

@@ -7,6 +7,7 @@ use Rattle.std.proofs.lemmas.Grind.{common_steps}
 use Rattle.std.proofs.lemmas.Bool.Decides.{nat_tests}
 use Rattle.text_grammar.specs.Readings.{cut_at, onto_front, ends_line, next_of}
 use Rattle.text_grammar.specs.Cuts.{lines_of, onto_line, at_feed, without_return, at_space, onto_word, words_of, starts_word}
+use Rattle.text_grammar.proofs.Numerals.{both_true}
 
 -- what stands before and behind a place, as slices of it
 behind_slice : (bytes : List ℕ) (at : ℕ) → take (length bytes - (at + 1)) (drop (at + 1) bytes) ≡ drop (at + 1) bytes
@@ -164,10 +165,6 @@ onto_lines b bytes feed (Some cut) inside other = ap (λ (line : List ℕ). line
 return_feed : (b c : ℕ) (bytes : List ℕ) → (b == 13) ≡ true → (c == 10) ≡ true → [] ∷ lines_of bytes ≡ lines_by (b ∷ c ∷ bytes) (onto_front b (cut_at 10 (c ∷ bytes)))
 unfolding lines_by
 return_feed b c bytes is feed = rw (feed, is) refl
-
-both_true : (a b : Bool) → (a && b) ≡ true → (a ≡ true) × (b ≡ true)
-both_true true b e = (refl, e)
-both_true false b e = absurd (cc)
 
 lines_cut : (b : ℕ) (bytes : List ℕ) → lines_of (b ∷ bytes) ≡ lines_by (b ∷ bytes) (cut_at 10 (b ∷ bytes))
 unfolding lines_by

@@ -7,9 +7,9 @@ use Rattle.std.proofs.lemmas.Option.{cond_some, same_Some}
 use Rattle.text_grammar.specs.Words.{IsFree, IsDigit, worth, AreDigits, IsHexDigit, AreHex, IsCut}
 use Rattle.text_grammar.specs.Readings.{digit_of, behind_digit, with_digits, unsigned_of, hex_digit_of, onto_bytes, hex_bytes_of, onto_front, cut_at, with_front, parts_of}
 
-both : (a b : Bool) → (a && b) ≡ true → (a ≡ true) × (b ≡ true)
-both true b e = (refl, e)
-both false b e = absurd (cc)
+pub both_true : (a b : Bool) → (a && b) ≡ true → (a ≡ true) × (b ≡ true)
+both_true true b e = (refl, e)
+both_true false b e = absurd (cc)
 
 which : {X : Type 0} (test : Bool) (a b c : X) → cond test a b ≡ c → ((test ≡ true) × (a ≡ c)) ⊎ ((test ≡ false) × (b ≡ c))
 which true a b c e = inl (refl, e)
@@ -17,7 +17,7 @@ which false a b c e = inr (refl, e)
 
 within : (low b high : ℕ) → (nat_le low b && nat_le b high) ≡ true → (low ≤ b) × (b ≤ high)
 within low b high e =
-    let p = both (nat_le low b) (nat_le b high) e in
+    let p = both_true (nat_le low b) (nat_le b high) e in
     let p0 : nat_le low b ≡ true = p.0 in
     let p1 : nat_le b high ≡ true = p.1 in
     (grind (arith, nat_tests), grind (arith, nat_tests))

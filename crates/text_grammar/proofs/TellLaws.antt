@@ -1,9 +1,10 @@
 -- What holds of the values of a shape, whatever its words.
-use Rattle.std.proofs.Common.{◌≡◌, ℕ, ◌≤◌, Bool, true, false, List, [], ◌∷◌, ◌++◌, length, Result, Ok, Err, refl, sym, subst, arith}
+use Rattle.std.proofs.Common.{◌≡◌, ◌∙◌, ℕ, ◌+◌, ◌≤◌, Bool, true, false, List, [], ◌∷◌, ◌++◌, length, Result, Ok, Err, ap, refl, sym, subst, arith}
 use Rattle.base_ids.specs.declared.rules.LimitName.{LimitName}
 use Rattle.text_grammar.specs.declared.faults.TextRule.{TextRule}
 use Rattle.text_grammar.specs.Judging.{if_so, if_within}
 use Rattle.std.specs.Prelude.{IfOk}
+use Rattle.std.proofs.lemmas.List.{length-append}
 use Rattle.text_grammar.specs.declared.faults.LineError.{LineError}
 use Rattle.text_grammar.specs.Readings.{reading}
 use Rattle.text_grammar.specs.Results.{Gives}
@@ -62,3 +63,11 @@ is_so false rule a b e = absurd (cc)
 pub is_within : {A : Type 0} (test : Bool) (name : LimitName) (a b : A) → if_within test name a ≡ Ok b → (test ≡ true) × (a ≡ b)
 is_within true name a b e = (refl, cc)
 is_within false name a b e = absurd (cc)
+
+-- as many are told as there are words
+pub told_count : {B : Type 0} (place : List B → Place B) (earlier : List B) (words : List (List ℕ)) (all : List B) → AreEach place earlier words all → length all ≡ length earlier + length words
+told_count place earlier [] all are = ap length are ∙ (omega arith)
+told_count place earlier (word ∷ words) all are =
+    let more : length all ≡ length (earlier ++ are.0 ∷ []) + length words = told_count place (earlier ++ are.0 ∷ []) words all are.2 in
+    let one : length (earlier ++ are.0 ∷ []) ≡ length earlier + length (are.0 ∷ []) = length-append earlier (are.0 ∷ []) in
+    omega arith

@@ -3,7 +3,7 @@ use Rattle.std.proofs.Common.{◌≡◌, ◌≢◌, ℕ, ◌<◌, ◌==◌, ◌&
 use Rattle.std.proofs.lemmas.Bool.Decides.{nat_tests}
 use Rattle.text_grammar.specs.Words.{IsFree, HaveWords, IsWithReturn, BeginsWithLine, IsLastLine, AreLines, HasLines}
 use Rattle.text_grammar.specs.Cuts.{words_of, lines_of, onto_line, at_feed, without_return, words_in}
-use Rattle.text_grammar.proofs.Numerals.{cut_back, cut_none}
+use Rattle.text_grammar.proofs.Numerals.{both_true, cut_back, cut_none}
 use Rattle.text_grammar.proofs.CutLemmas.{last_line, one_line, return_passed, return_none}
 use Rattle.text_grammar.proofs.WordLaws.{words_again, are_words}
 
@@ -38,10 +38,6 @@ differs b s h = λ e. grind (arith, nat_tests)
 
 is_feed : (b s : ℕ) → (b == s) ≡ true → b ≡ s
 is_feed b s h = grind (arith, nat_tests)
-
-both_true : (a b : Bool) → (a && b) ≡ true → (a ≡ true) × (b ≡ true)
-both_true true b e = (refl, e)
-both_true false b e = absurd (cc)
 
 at_once : (behind : List ℕ) → BeginsWithLine (10 ∷ behind) [] behind
 at_once behind = record { before = []; spelt = refl; free = tt; passed = inr (refl, no_return) }

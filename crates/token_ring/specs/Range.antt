@@ -2,7 +2,7 @@
 use Rattle.std.specs.Prelude.{◌≡◌, ◌≤ℤ◌, ◌^◌, ℕ, ℤ, Bool, true, pos, int_lt, refl}
 use Rattle.std.specs.Int.Signed.{lt_z_yes}
 use Rattle.std.proofs.Common.{T, subst, sym}
-use Rattle.token_ring.specs.Ring.{least_number, number_at, first_place, last_place}
+use Rattle.token_ring.specs.Ring.{least_number, number_at, first_offset, last_offset}
 use Rattle.token_ring.specs.declared.ring.TokenRange.{TokenRange}
 use Rattle.token_ring.specs.declared.token.Token.{Token}
 
@@ -32,6 +32,6 @@ token_of value = token_by value (above_least value) (below_end value) refl refl
 abbrev pub range_at : ℕ → ℕ → TokenRange
 range_at log2 tablet =
     record {
-      first = token_of (number_at (first_place log2 tablet));
-      last = token_of (number_at (last_place log2 tablet));
+      first = token_of (number_at (first_offset log2 tablet));
+      last = token_of (number_at (last_offset log2 tablet));
     }

@@ -13,13 +13,13 @@ pub fn law_in_one_tablet()
     ensures { (log2 : ℕ) (token : Token) → log2 ≤ 10 → tablet_at log2 token.value < 2 ^ log2 }
 {}
 
-/// A token lies from the first to the last place of a tablet exactly where that tablet is its tablet.
+/// A token lies from the first to the last offset of a tablet exactly where that tablet is its tablet.
 pub fn law_tablet_and_range()
     ensures { (log2 tablet : ℕ) (token : Token) → log2 ≤ 10 → tablet < 2 ^ log2 →
         IsBetween log2 tablet token.value ↔ (tablet_at log2 token.value ≡ tablet) }
 {}
 
-/// The places of a tablet's two children follow one another and together are its places.
+/// The offsets of a tablet's two children follow one another and together are its offsets.
 pub fn law_children()
     ensures { (log2 tablet : ℕ) → log2 < 10 → tablet < 2 ^ log2 → HasChildren log2 tablet }
 {}

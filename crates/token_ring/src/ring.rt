@@ -1,5 +1,5 @@
 ghost use Rattle.std.specs.Prelude.{◌≡◌, ◌↔◌, ◌+◌, ◌*◌, ◌/◌, ◌^◌, ◌<◌, ◌≤◌};
-ghost use Rattle.token_ring.specs.Ring.{place, tablet_at, first_place, last_place, width};
+ghost use Rattle.token_ring.specs.Ring.{offset, tablet_at, first_offset, last_offset, width};
 ghost use Rattle.token_ring.specs.Range.{IsIn, range_at};
 ghost use Rattle.token_ring.specs.declared.token.Token.{Token};
 
@@ -25,7 +25,7 @@ pub fn tablet_of(log2: u8, token: Token) -> TabletId
     ensures tablet { result.0 ≡ tablet_at log2 token.value }
     ensures below { result.0 < 2 ^ log2 }
 {
-    TabletId((u128::from(place_of(token)) >> (64 - log2)) as u32)
+    TabletId((u128::from(offset_of(token)) >> (64 - log2)) as u32)
 }
 
 /// All tokens of a tablet where the ring is divided into `2^log2` tablets.
@@ -33,8 +33,8 @@ pub fn range_of(log2: u8, tablet: TabletId) -> TokenRange
     requires divided { log2 ≤ 10 }
     requires within { tablet.0 < 2 ^ log2 }
     ensures range { result ≡ range_at log2 tablet.0 }
-    ensures first { place result.first.value ≡ first_place log2 tablet.0 }
-    ensures last { place result.last.value ≡ last_place log2 tablet.0 }
+    ensures first { offset result.first.value ≡ first_offset log2 tablet.0 }
+    ensures last { offset result.last.value ≡ last_offset log2 tablet.0 }
     ensures tokens { (token : Token) → IsIn result token ↔ (tablet_at log2 token.value ≡ tablet.0) }
 {
     let start = start_of(log2, tablet.0);
@@ -61,27 +61,27 @@ pub fn parent(tablet: TabletId) -> TabletId
     TabletId(tablet.0 / 2)
 }
 
-/// How many places of the ring the first `tablets` of `2^log2` tablets have.
+/// How many offsets of the ring the first `tablets` of `2^log2` tablets have.
 fn start_of(log2: u8, tablets: u32) -> u128
     requires divided { log2 ≤ 10 }
     requires within { tablets ≤ 2 ^ log2 }
-    ensures places { result ≡ tablets * width log2 }
+    ensures offsets { result ≡ tablets * width log2 }
     ensures below { result ≤ 2 ^ 64 }
 {
     u128::from(tablets) << (64 - log2)
 }
 
-/// The place of a token on the ring.
-fn place_of(token: Token) -> u64
-    ensures { result ≡ place token.value }
+/// The offset of a token from the start of the ring.
+fn offset_of(token: Token) -> u64
+    ensures { result ≡ offset token.value }
 {
     token.get().abs_diff(i64::MIN)
 }
 
-/// The token at a place of the ring.
+/// The token at an offset.
 fn token_at(at: u64) -> Token
     requires { 0 < at }
-    ensures { place result.value ≡ at }
+    ensures { offset result.value ≡ at }
 {
     let Some(token) = Token::new((i128::from(at) - (1 << 63)) as i64) else {
         unreachable!()

@@ -1,7 +1,7 @@
 ghost use Rattle.std.specs.Prelude.{◌≡◌, ◌↔◌, IfSome, IsNone};
 ghost use Rattle.token_ring.specs.Ring.{IsToken, least_number};
 
-/// A token, a place on the ring: any signed 64-bit number but the least, -2^63.
+/// A token, a point of the ring: any signed 64-bit number but the least, -2^63.
 /// Source: ScyllaDB's tokens.
 #[derive(Clone, Copy, Debug, PartialEq, Eq, PartialOrd, Ord)]
 pub struct Token {

@@ -6,7 +6,6 @@ use Rattle.std.specs.Prelude.{option_map}
 use Rattle.std.proofs.lemmas.Bool.{eq-eqb, eqb-true}
 use Rattle.std.proofs.lemmas.List.Quantifiers.{position-Some}
 use Rattle.base_ids.specs.declared.ids.Session.{Session}
-use Rattle.base_ids.specs.declared.ids.Replica.{Replica}
 use Rattle.base_ids.specs.declared.ids.TableId.{TableId}
 use Rattle.stage_graph.specs.declared.stage.Stage.{Stage}
 use Rattle.stage_graph.specs.declared.stage.Stage.TheVariants.{Cleanup, CleanupTarget, Streaming}
@@ -21,19 +20,16 @@ use Rattle.topo_state.specs.declared.data.Table.{Table}
 use Rattle.topo_state.specs.declared.moves.Move.{Move}
 use Rattle.log_law.proofs.PlaceLemmas.{found_place, has_by_id}
 use Rattle.migrate_core.specs.Transitions.{cleaned_at, cleaned_host_in, streamed_at, streamed_host, transition_at, transition_in, transition_of}
+use Rattle.log_law.proofs.MoveLemmas.{still_has_none}
 
 abbrev pub moves_on : Move → Transition
 moves_on move = move.transition
-
-has_none : (session : Session) (replicas : List Replica) (o : Option Transition) → o ≡ None → has_session session (record { replicas = replicas; transition = o }) ≡ false
-has_none session replicas None e = refl
-has_none session replicas (Some t) e = cc e
 
 -- a tablet that moves under the session moves
 here : (table : Table) (rest : List Table) (session : Session) (n : ℕ) → position (has_session session) table.map.list ≡ Some n → (o : Option Transition) → (tablet_in table.map.list n).transition ≡ o → o ≡ option_map moves_on (option_or (move_by table n o) (move_in rest session))
 here table rest session n first None e =
     let has : has_session session (tablet_in table.map.list n) ≡ true = (position-Some (has_session session) table.map.list n no_tablet first).1 in
-    let none : has_session session (tablet_in table.map.list n) ≡ false = has_none session (tablet_in table.map.list n).replicas (tablet_in table.map.list n).transition e in
+    let none : has_session session (tablet_in table.map.list n) ≡ false = still_has_none session (tablet_in table.map.list n).replicas (tablet_in table.map.list n).transition e in
     cc
 here table rest session n first (Some transition) e = refl
 

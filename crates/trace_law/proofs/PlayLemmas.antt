@@ -1,7 +1,7 @@
 -- A line for each entry of a legal run is played entry by entry.
 use Rattle.std.proofs.Common.{Bool, List, None, Option, Some, [], ap, append-nil, append_assoc, arith, false, if◌then◌else◌, inl, inr, is_some, length, nat_le, refl, reverse, subst, sym, true, ℕ, ◌&&◌, ◌++◌, ◌+◌, ◌<◌, ◌∙◌, ◌∷◌, ◌≡◌, ◌≤◌}
 use Rattle.std.proofs.lemmas.Bool.Decides.{nat_tests}
-use Rattle.std.proofs.lemmas.List.{length-append, reverse-append}
+use Rattle.std.proofs.lemmas.List.{length-append}
 use Rattle.base_ids.specs.declared.rules.EventRule.{EventRule}
 use Rattle.base_ids.specs.declared.rules.LimitName.TheVariants.{Log}
 use Rattle.cluster_history.specs.History.{History}
@@ -20,6 +20,8 @@ use Rattle.schedule_play.specs.Play.{Places, Played, Stop, ended_play, event_of,
 use Rattle.topo_state.specs.declared.command.Command.{Command}
 use Rattle.trace_law.specs.Traces.{EntriesArePlayed}
 use Rattle.written_text.specs.Schedules.{event_lines, line_event, schedule_from}
+use Rattle.written_text.proofs.RunLemmas.{older_legal, split}
+use Rattle.cluster_history.proofs.WithinLemmas.{longer}
 
 -- the line of an event says that event, whatever lines were played before
 said_event : (places : Places) (journal : Journal) (event : Event) → event_of places journal (line_event event) ≡ event
@@ -59,29 +61,14 @@ one_command : (command : Option Command) (log : List Command) → is_some comman
 one_command None log some = absurd (cc)
 one_command (Some command) log some = omega arith
 
-fewer_commands : (command : Option Command) (log : List Command) → length log ≤ length (with_command command log)
-fewer_commands None log = omega arith
-fewer_commands (Some command) log = omega arith
-
 older_commands : (newer older : History) → length (log_of older) ≤ length (log_of (newer ++ older))
 older_commands [] older = omega arith
 older_commands (entry ∷ newer) older =
     let one = older_commands newer older in
-    let two = fewer_commands (accepted_command entry.event entry.outputs) (log_of (newer ++ older)) in
+    let two = longer (accepted_command entry.event entry.outputs) (log_of (newer ++ older)) in
     omega arith
 
 -- ---- histories
-
-older_legal : (opening : Opening) (newer older : History) → IsLegalHistory opening (newer ++ older) → IsLegalHistory opening older
-older_legal opening [] older legal = legal
-older_legal opening (entry ∷ newer) older legal = older_legal opening newer older legal.1
-
--- the entries in front of another, the newest first
-split : (front : List Entry) (entry : Entry) (rest : List Entry) → reverse (front ++ entry ∷ rest) ≡ reverse rest ++ (entry ∷ reverse front)
-split front entry rest =
-    reverse-append front (entry ∷ rest)
-    ∙ ap (λ (history : List Entry). history ++ reverse front) (reverse-append (entry ∷ []) rest)
-    ∙ append_assoc (reverse rest) (entry ∷ []) (reverse front)
 
 -- the entry in its place came next, and passes no limit
 record Comes (opening : Opening) (front : List Entry) (entry : Entry) : Type 0 where

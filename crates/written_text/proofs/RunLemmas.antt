@@ -38,12 +38,12 @@ pub record IsGood (opening : Opening) (entry : Entry) : Type 0 where
   pub fit : IsFitEvent opening entry.event
   pub fits : FitsEntry entry
 
-older_legal : (opening : Opening) (newer older : History) → IsLegalHistory opening (newer ++ older) → IsLegalHistory opening older
+pub older_legal : (opening : Opening) (newer older : History) → IsLegalHistory opening (newer ++ older) → IsLegalHistory opening older
 older_legal opening [] older legal = legal
 older_legal opening (entry ∷ newer) older legal = older_legal opening newer older legal.1
 
 -- the entries in front of another, the newest first
-split : (front : List Entry) (entry : Entry) (rest : List Entry) → reverse (front ++ entry ∷ rest) ≡ reverse rest ++ (entry ∷ reverse front)
+pub split : (front : List Entry) (entry : Entry) (rest : List Entry) → reverse (front ++ entry ∷ rest) ≡ reverse rest ++ (entry ∷ reverse front)
 split front entry rest =
     reverse-append front (entry ∷ rest)
     ∙ ap (λ (history : List Entry). history ++ reverse front) (reverse-append (entry ∷ []) rest)

@@ -1,5 +1,5 @@
 use Rattle.std.proofs.Common.{◌≡◌, ◌+◌, ◌-◌, drop, length, ap, arith}
-use Rattle.token_ring.specs.Ring.{place}
+use Rattle.token_ring.specs.Ring.{offset}
 use Rattle.replica_store.specs.Cells.{range_cells}
 use Rattle.run_store.specs.Runs.{run_cells}
 use Rattle.run_store.proofs.ChunkLemmas.{AreOrdered-runs, AreOrdered-drop, AreOrdered-take, AreRuns-between, first_run_none, narrow, narrow_none, narrow_one, take_nothing}
@@ -23,7 +23,7 @@ returns-then-from-until-clause-more c =
 
 pub returns-then-from-until-clause-full : goal.returns-then-from-until-clause-full
 returns-then-from-until-clause-full c = λ one.
-    let few = narrow_one c.args.log2 c.index_of-from.result c.index_of-until.result (place c.args.range.first.value) (place c.args.range.last.value) (place c.first_asked.result.value) c.args.runs.now c.first_asked.ensures.above_first c.index_of-from.ensures.tablet c.index_of-until.ensures.tablet one in
+    let few = narrow_one c.args.log2 c.index_of-from.result c.index_of-until.result (offset c.args.range.first.value) (offset c.args.range.last.value) (offset c.first_asked.result.value) c.args.runs.now c.first_asked.ensures.above_first c.index_of-from.ensures.tablet c.index_of-until.ensures.tablet one in
     rw (narrow c.args.table c.args.range c.args.after c.args.log2 c.index_of-from.result c.index_of-until.result c.first_asked.result c.args.runs.now (c.first_asked.ensures.asked c.args.table) c.index_of-from.ensures.tablet c.index_of-until.ensures.tablet c.if-from-until.true c.requires.grouped.each) at (c.chunk_of.ensures.full few)
 
 pub returns-else-from-until-clause-some : goal.returns-else-from-until-clause-some

@@ -1,4 +1,4 @@
-use Rattle.token_ring.proofs.Places.{children_follow}
+use Rattle.token_ring.proofs.Offsets.{children_follow}
 use Rattle.token_ring.proofs.laws.law_children.Goals as goal
 
 pub returns : goal.returns

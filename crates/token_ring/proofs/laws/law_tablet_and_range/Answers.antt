@@ -1,4 +1,4 @@
-use Rattle.token_ring.proofs.Places.{between_has_tablet, tablet_is_between}
+use Rattle.token_ring.proofs.Offsets.{between_has_tablet, tablet_is_between}
 use Rattle.token_ring.proofs.laws.law_tablet_and_range.Goals as goal
 
 pub returns : goal.returns

@@ -1,4 +1,4 @@
-use Rattle.token_ring.proofs.Places.{shifted_within}
+use Rattle.token_ring.proofs.Offsets.{shifted_within}
 use Rattle.token_ring.proofs.ring.start_of.Goals as goal
 
 pub returns-clause-below : goal.returns-clause-below

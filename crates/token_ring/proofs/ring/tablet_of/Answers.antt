@@ -1,5 +1,5 @@
 use Rattle.std.proofs.Common.{arith, ◌≤◌, ◌<◌, ◌^◌, ◌/◌}
-use Rattle.token_ring.proofs.Places.{tablet_below, few_tablets}
+use Rattle.token_ring.proofs.Offsets.{tablet_below, few_tablets}
 use Rattle.token_ring.specs.Ring.{width}
 use Rattle.token_ring.proofs.ring.tablet_of.Goals as goal
 

@@ -1,5 +1,0 @@
-use Rattle.std.proofs.Common.{◌≡◌, ◌++◌, take}
-use Rattle.stream_core.proofs.serve.append.Given as goal
-
-abbrev pub invariant-loop-stored : goal.invariant-loop-stored
-invariant-loop-stored l = l.list ≡ l.initial.list ++ take l.stored-index l.cells
