@@ -50,7 +50,7 @@ pub struct Session(pub u64);
 pub struct OpId(pub u64);
 
 /// Names a message: the entry of the journal that sent it, from 1, and the output of it, from 0.
-#[derive(Clone, Copy, Debug, PartialEq, Eq, PartialOrd, Ord)]
+#[derive(Clone, Copy, Debug, PartialEq, Eq, PartialOrd, Ord, Hash)]
 pub struct MsgRef {
     /// The number of the entry in the journal.
     pub event: u64,

@@ -1,5 +1,5 @@
 // One list type for every list of the surface. Contracts see it as a list.
-ghost use Rattle.std.specs.Prelude.{◌≡◌, ◌++◌, ◌∷◌, ◌-◌, [], length, take, slice_set, IfSome, OnOk, OnErr, option_to_list, IsNone, ◌↔◌, IfOk};
+ghost use Rattle.std.specs.Prelude.{◌≡◌, ◌++◌, ◌∷◌, ◌-◌, [], length, take, slice_set, IfSome, OnOk, OnErr, option_to_list, IsNone, ◌↔◌, IfOk, true};
 
 use crate::memory::NoMemory;
 use std::alloc::Global;
@@ -69,9 +69,31 @@ impl<T> Items<T> {
     {
         self.items.as_slice()
     }
+
+    /// How many items there are.
+    pub fn len(&self) -> usize
+        ensures { result ≡ length self.now }
+    {
+        self.items.len()
+    }
+
+    /// Whether there is no item.
+    pub fn is_empty(&self) -> bool
+        ensures { result ≡ true ↔ self.now ≡ [] }
+    {
+        self.items.is_empty()
+    }
 }
 
 impl<T: Drop> Items<T> {
+    /// Makes room for this many further items. `NoMemory` comes where memory for it is refused.
+    pub fn reserve(&mut self, more: usize) -> Result<(), NoMemory>
+        ensures { self.new ≡ self.old }
+    {
+        self.items.reserve(more)?;
+        Ok(())
+    }
+
     /// Adds an item at the end. `NoMemory` leaves the list as it was, and the item is dropped.
     pub fn push(&mut self, item: T) -> Result<(), NoMemory>
         ensures ok { OnOk result (self.new ≡ self.old ++ item ∷ []) }

@@ -6,7 +6,7 @@ use std::marker::Model;
 #[derive(Clone, Copy, Debug, PartialEq, Eq)]
 pub struct Bytes64 {
     bytes: [u8; 64],
-    len: usize,
+    len: u8,
 }
 
 impl Model for Bytes64 {
@@ -43,7 +43,7 @@ impl Bytes64 {
         fill_front(&mut filled, bytes);
         Some(Bytes64 {
             bytes: filled,
-            len: bytes.len(),
+            len: bytes.len() as u8,
         })
     }
 
@@ -52,7 +52,7 @@ impl Bytes64 {
         ensures bytes { result.now ≡ self.now }
         ensures few { length result.now ≤ 64 }
     {
-        &self.bytes[..self.len]
+        &self.bytes[..usize::from(self.len)]
     }
 }
 

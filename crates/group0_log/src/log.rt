@@ -1,8 +1,9 @@
-ghost use Rattle.std.specs.Prelude.{◌≡◌, ◌<◌, ◌≤◌, ◌-◌, ◌^◌, [], length, option_copied, IfOk, OnErr};
+ghost use Rattle.std.specs.Prelude.{◌≡◌, ◌<◌, ◌≤◌, ◌-◌, ◌^◌, ◌∷◌, [], None, length, option_copied, IfOk, OnErr, OnOk};
 ghost use Rattle.topo_state.specs.Rules.{rule, IsFit};
-ghost use Rattle.group0_log.specs.Log.{state_of, state_at, command_at, outcome_of, log_after, IsLegalLog};
+ghost use Rattle.base_ids.specs.Outcomes.{outcome_of};
+ghost use Rattle.group0_log.specs.Log.{state_of, state_at, command_at, log_after, IsLegalLog};
 
-use crate::entries::{append_entry, entry_at};
+use crate::entries::{entry_at, push_entry};
 use crate::replay::replayed;
 use base_ids::{Appended, NoMemory, StateId};
 use shared_value::Shared;
@@ -10,12 +11,12 @@ use std::alloc::Global;
 use std::marker::Model;
 use topo_state::{Command, Rule, TopoState};
 
-/// The accepted commands in order, over a first state, and the state after all of them.
+/// The accepted commands in order, over a first state, and the state after all of them, which others may share.
 #[derive(Drop)]
 pub struct Log {
-    opening: TopoState,
+    opening: Shared<TopoState>,
     entries: Vec<Shared<Command>>,
-    state: TopoState,
+    state: Shared<TopoState>,
 }
 
 impl Model for Log {
@@ -35,7 +36,8 @@ impl Log {
     pub fn new(alloc: Global, opening: TopoState) -> Result<Log, NoMemory>
         ensures { IfOk result (λ log. log ≡ record { first = opening; commands = [] }) }
     {
-        let state = opening.clone_in(alloc)?;
+        let opening = Shared::new(alloc, opening)?;
+        let state = opening.share()?;
         Ok(Log {
             opening,
             entries: Vec::new(alloc),
@@ -55,7 +57,14 @@ impl Log {
         ensures state { result.now ≡ state_of self.now.first self.now.commands }
         ensures legal { IsLegalLog self.now.first self.now.commands }
     {
-        &self.state
+        self.state.get()
+    }
+
+    /// The state after all commands, with one more owner. Nothing is copied.
+    pub fn share_state(&self) -> Result<Shared<TopoState>, NoMemory>
+        ensures { IfOk result (λ state. state ≡ state_of self.now.first self.now.commands) }
+    {
+        self.state.share()
     }
 
     /// Lends the command of an entry, from 1.
@@ -63,6 +72,25 @@ impl Log {
         ensures { option_copied result ≡ command_at self.now.commands n }
     {
         entry_at(self.entries.as_slice(), n)
+    }
+
+    /// What would become of the proposal of a command whose proposer has read the state of this id: a conflict where that
+    /// is not the last state, else illegal where the command breaks a rule there, else the next entry.
+    pub fn outcome(&self, read: StateId, command: &Command) -> Appended<Rule>
+        requires { IsFit command.now }
+        ensures { result ≡ outcome_of read.0 (length self.now.commands)
+            (rule (state_of self.now.first self.now.commands) command.now) }
+    {
+        let last = self.entries.len() as u64;
+        if read.0 != last {
+            return Appended::Conflict {
+                last: StateId(last),
+            };
+        }
+        match self.state.judge(command) {
+            Err(rule) => Appended::Illegal { rule },
+            Ok(()) => Appended::Accepted { index: last + 1 },
+        }
     }
 
     /// Proposes a command whose proposer has read the state of this id. It is a conflict where that is not the last
@@ -81,18 +109,47 @@ impl Log {
         ensures log { IfOk result (λ appended. self.new ≡ log_after self.old command appended) }
         ensures err { OnErr result (self.new ≡ self.old) }
     {
-        let last = self.len();
-        if read.0 != last {
-            return Ok(Appended::Conflict {
-                last: StateId(last),
-            });
+        let outcome = self.outcome(read, command.get());
+        if let Appended::Accepted { .. } = outcome {
+            let next = self.next_state(alloc, command.get())?;
+            self.push(command, next)?;
         }
-        if let Err(rule) = self.state.judge(command.get()) {
-            return Ok(Appended::Illegal { rule });
-        }
-        let index = last + 1;
-        append_entry(alloc, &mut self.entries, &mut self.state, command, index)?;
-        Ok(Appended::Accepted { index })
+        Ok(outcome)
+    }
+
+    /// The state after a further command, which is judged well. It is made once, before the log has the command.
+    /// `NoMemory` comes where memory for it is refused.
+    pub fn next_state(
+        &self,
+        alloc: Global,
+        command: &Command,
+    ) -> Result<Shared<TopoState>, NoMemory>
+        requires fit { IsFit command.now }
+        requires judged { rule (state_of self.now.first self.now.commands) command.now ≡ None }
+        requires version { (state_of self.now.first self.now.commands).version.0 < 2 ^ 64 - 1 }
+        ensures { IfOk result (λ next. next ≡ state_of self.now.first (command.now ∷ self.now.commands)) }
+    {
+        let mut next = self.state.get().clone_in(alloc)?;
+        next.apply(alloc, command, self.len() + 1)?;
+        Shared::new(alloc, next)
+    }
+
+    /// Adds the next entry, whose command is judged well, with the state after it. `NoMemory` leaves the log as it was.
+    pub fn push(
+        &mut self,
+        command: Shared<Command>,
+        next: Shared<TopoState>,
+    ) -> Result<(), NoMemory>
+        requires fit { IsFit command }
+        requires judged { rule (state_of self.old.first self.old.commands) command ≡ None }
+        requires version { (state_of self.old.first self.old.commands).version.0 < 2 ^ 64 - 1 }
+        requires next { next ≡ state_of self.old.first (command ∷ self.old.commands) }
+        ensures ok { OnOk result (self.new ≡ record self.old { commands = command ∷ self.old.commands }) }
+        ensures err { OnErr result (self.new ≡ self.old) }
+    {
+        push_entry(&mut self.entries, command)?;
+        self.state = next;
+        Ok(())
     }
 
     /// The state after the first `n` commands. The last one is copied; an earlier one is made anew, command by command.
@@ -102,9 +159,14 @@ impl Log {
         ensures { IfOk result (λ state. state ≡ state_at self.now.first self.now.commands n) }
     {
         if n == self.len() {
-            self.state.clone_in(alloc)
+            self.state.get().clone_in(alloc)
         } else {
-            replayed(alloc, &self.opening, self.entries.as_slice(), n as usize)
+            replayed(
+                alloc,
+                self.opening.get(),
+                self.entries.as_slice(),
+                n as usize,
+            )
         }
     }
 }

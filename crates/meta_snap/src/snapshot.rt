@@ -6,6 +6,8 @@ ghost use Rattle.meta_snap.specs.Routes.{directions_in, CanAnswer};
 use crate::lists::{TableLists, lists_of_table, table_lists};
 use crate::route::{Route, route_at};
 use base_ids::{HostId, NoMemory, TableId, Version, is_same_host};
+use shared_value::Shared;
+use stage_graph::Level;
 use std::alloc::Global;
 use std::marker::Model;
 use token_ring::{Token, tablet_of};
@@ -14,7 +16,7 @@ use topo_state::{Table, TopoState};
 /// One state of the topology, with the lists of replicas that requests go to. Callers see it as that state.
 #[derive(Drop)]
 pub struct Snapshot {
-    state: TopoState,
+    state: Shared<TopoState>,
     lists: Vec<TableLists>,
 }
 
@@ -32,22 +34,28 @@ impl Model for Snapshot {
 impl Snapshot {
     ghost use Rattle.meta_snap.specs.Routes.{directions_lent};
 
-    /// The snapshot of a state. `NoMemory` comes where memory for it is refused.
+    /// The snapshot of a copy of a state. `NoMemory` comes where memory for it is refused.
     pub fn resolve(alloc: Global, state: &TopoState) -> Result<Snapshot, NoMemory>
         ensures { IfOk result (λ snapshot. snapshot ≡ state.now) }
     {
-        let lists = all_lists(alloc, state.tables())?;
-        Ok(Snapshot {
-            state: state.clone_in(alloc)?,
-            lists,
-        })
+        let copy = state.clone_in(alloc)?;
+        Snapshot::over(alloc, Shared::new(alloc, copy)?)
+    }
+
+    /// The snapshot of a state that others may share: it is not copied. `NoMemory` comes where memory for the lists is
+    /// refused.
+    pub fn over(alloc: Global, state: Shared<TopoState>) -> Result<Snapshot, NoMemory>
+        ensures { IfOk result (λ snapshot. snapshot ≡ state) }
+    {
+        let lists = all_lists(alloc, state.get().tables())?;
+        Ok(Snapshot { state, lists })
     }
 
     /// The version of the state.
     pub fn version(&self) -> Version
         ensures { result ≡ self.now.version }
     {
-        self.state.version()
+        self.state.get().version()
     }
 
     /// Whether the host is a member.
@@ -55,25 +63,27 @@ impl Snapshot {
         ensures { result ≡ is_member self.now.members host }
     {
         self.state
+            .get()
             .members()
             .iter()
             .any(|member| is_same_host(host, *member))
     }
 
-    /// Where requests for a key go, and how many answers they need. `None` where the state lacks the table, and only
+    /// Where requests for a key go, and how many answers they need at a level. `None` where the state lacks the table, and only
     /// there. Nothing is copied: the lists are lent.
-    pub fn route(&self, table: TableId, token: Token) -> Option<Route<'_>>
-        ensures route { option_map directions_lent result ≡ directions_in self.now table token.value }
+    pub fn route(&self, table: TableId, token: Token, level: Level) -> Option<Route<'_>>
+        ensures route { option_map directions_lent result ≡ directions_in self.now table token.value level }
         ensures reads { IfSome result (λ route. CanAnswer route.reads.now route.read_need) }
         ensures writes { IfSome result (λ route. CanAnswer route.writes.now route.write_need) }
     {
-        let found = self.state.table(table)?;
+        let found = self.state.get().table(table)?;
         let lists = lists_of_table(self.lists.as_slice(), table)?;
         let tablet = tablet_of(found.map.log2(), token);
         Some(route_at(
             found.map.tablets(),
             lists.tablets.as_slice(),
             tablet.0 as usize,
+            level,
         ))
     }
 }

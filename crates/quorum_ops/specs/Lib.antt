@@ -1,3 +1,4 @@
 pub mod Decision
+pub mod Follows
 pub mod Pending
 pub mod Taken

@@ -2,6 +2,7 @@
 #![tactic(auto)]
 
 mod data;
+mod follow;
 mod laws;
 mod read_op;
 mod refusal;
@@ -9,6 +10,7 @@ mod taking;
 mod write_op;
 
 pub use data::{Answer, ReadAsk, ReadAskList, Reply, Said, WriteAsk, WriteAskList};
+pub use follow::{Follow, follow_up};
 pub use laws::{decision_laws, idle_laws};
 pub use read_op::ReadOp;
 pub use taking::Taking;

@@ -1,5 +1,5 @@
 //! A whole range of any store, by several chunks.
-ghost use Rattle.std.specs.Prelude.{◌≡◌, ◌≤◌, ◌++◌, None, IfOk, OnOk};
+ghost use Rattle.std.specs.Prelude.{◌≡◌, ◌≤◌, ◌++◌, None, IfOk, OnErr, OnOk, take};
 ghost use Rattle.replica_store.specs.Cells.{range_cells};
 
 use crate::store::{Chunk, Store, Stored, StoredList};
@@ -34,12 +34,26 @@ pub fn gather<S: Store>(
     }
 }
 
-/// Adds cells at the end of a list. `NoMemory` comes where memory for the list is refused.
+/// Adds cells at the end of a list. `NoMemory` comes where memory for the list is refused, and leaves it as it was.
 pub fn append_cells(list: &mut StoredList, cells: &[Stored]) -> Result<(), NoMemory>
-    ensures { OnOk result (list.new ≡ list.old ++ cells.now) }
+    ensures ok { OnOk result (list.new ≡ list.old ++ cells.now) }
+    ensures err { OnErr result (list.new ≡ list.old) }
 {
-    for stored in cells {
-        list.push(*stored)?;
+    let before = list.len();
+    'cells: for stored in cells {
+        if list.push(*stored).is_err() {
+            shorten(list, before);
+            return Err(NoMemory);
+        }
     }
     Ok(())
+}
+
+/// Leaves the first cells of a list, so many of them.
+fn shorten(list: &mut StoredList, count: usize)
+    ensures { list.new ≡ take count list.old }
+{
+    'dropping: while list.len() > count {
+        let _last = list.pop();
+    }
 }

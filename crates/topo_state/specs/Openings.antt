@@ -6,7 +6,7 @@ use Rattle.base_ids.specs.declared.ids.HostId.{HostId}
 use Rattle.tablet_map.specs.declared.tablet.Tablet.{Tablet}
 use Rattle.tablet_map.specs.Tablets.{is_moving}
 use Rattle.topo_state.specs.declared.data.Table.{Table}
-use Rattle.topo_state.specs.State.{Topology, is_member, is_known}
+use Rattle.topo_state.specs.State.{Topology, distinct_members, is_known}
 use Rattle.topo_state.specs.Tables.{every_tablet}
 use Rattle.topo_state.specs.Sound.{IsTopology}
 
@@ -22,11 +22,6 @@ is_undecided table = is_none table.resize
 abbrev pub has_known_replicas : Topology → Tablet → Bool
 has_known_replicas state tablet = list_all (is_known state) tablet.replicas
 
--- no member stands twice
-abbrev pub distinct_members : List HostId → Bool
-distinct_members [] = true
-distinct_members (host ∷ rest) = not (is_member rest host) && distinct_members rest
-
 -- the first state over these hosts, members and tables
 abbrev pub first_state : ℕ → ℕ → List HostId → List Table → Topology
 first_state hosts shards members tables =
@@ -40,13 +35,13 @@ first_state hosts shards members tables =
       tables = tables;
     }
 
--- An opening: 1 to 64 hosts of 1 to 16 shards, one or more members among them, and tables on members that neither
+-- An opening: 1 to 256 hosts of 1 to 16 shards, one or more members among them, and tables on members that neither
 -- move nor are to be resized. Version and fence are 1.
 pub record IsOpening (first : Topology) : Type 0 where
   pub version : first.version.0 ≡ 1
   pub fence : first.fence.0 ≡ 1
   pub before : first.before ≡ first.members
-  pub hosts : (1 ≤ first.hosts) × (first.hosts ≤ 64)
+  pub hosts : (1 ≤ first.hosts) × (first.hosts ≤ 256)
   pub shards : (1 ≤ first.shards) × (first.shards ≤ 16)
   pub some : 1 ≤ length first.members
   pub once : distinct_members first.members ≡ true
