@@ -21,7 +21,7 @@ use Rattle.cluster_history.specs.declared.data.Message.TheVariants.{Answer as An
 use Rattle.cluster_history.specs.declared.data.Opening.{Opening}
 use Rattle.history_facts.proofs.BegunLemmas.{request_at-later}
 use Rattle.history_facts.proofs.EntryLemmas.{next_at}
-use Rattle.history_facts.proofs.NameLemmas.{and_true, same_lane-refl, same_op-refl}
+use Rattle.base_ids.proofs.NameLemmas.{and_true, same_lane-refl, same_op-refl}
 use Rattle.history_facts.proofs.ReplyLemmas.{Decides, Replies}
 use Rattle.history_facts.proofs.ReplyLemmas.Replies.{replies_at_once, replies_decided, replies_given_up}
 use Rattle.history_facts.specs.Prefixes.{history_before}
@@ -181,13 +181,13 @@ answers_kept history entry lane op event =
     same false = refl
 
 given_up :
-    (opening : Opening) (history : History) (entry : Entry) (lane : LaneId) (op : OpId) (request : Request) (answered required : ℕ) → IsLegalHistory opening history →
+    (opening : Opening) (history : History) (entry : Entry) (lane : LaneId) (op : OpId) (request : Request) (answered required : ℕ) → IsValidOpening opening → IsLegalHistory opening history →
     entry.event ≡ Timeout lane op → is_live history lane op ≡ true → request_at opening history lane op ≡ Some request →
     timeout_reply request.targets request.need (answers_of history lane op) ≡ TimedOut answered required → IsShort opening (entry ∷ history) lane op answered required
-given_up opening history entry lane op request answered required legal event live begun same =
+given_up opening history entry lane op request answered required valid legal event live begun same =
     let count : answered ≡ answered_count (answers_of history lane op) request.targets = cc same in
     let need : required ≡ request.need = cc same in
-    let few = unanswered opening history legal lane op request live begun in
+    let few = unanswered opening valid history legal lane op request live begun in
     record {
       request = request;
       begun = request_at-later opening history entry lane op request begun;
@@ -202,20 +202,20 @@ no_timeout_away reply answered required (IsNoMember is) e = let wrong : NotMembe
 
 timeout_by :
     (opening : Opening) (history : History) (entry : Entry) (lane : LaneId) (event : Event) (op : OpId) (version : Version) (kind : Kind) (reply : Reply) (answered required : ℕ) →
-    IsLegalHistory opening history → entry.event ≡ event → Replies opening history lane event op version kind reply → reply ≡ TimedOut answered required →
+    IsValidOpening opening → IsLegalHistory opening history → entry.event ≡ event → Replies opening history lane event op version kind reply → reply ≡ TimedOut answered required →
     IsShort opening (entry ∷ history) lane op answered required
-timeout_by opening history entry lane event op version kind reply answered required legal is (replies_at_once {operation = operation} told ends) e =
+timeout_by opening history entry lane event op version kind reply answered required valid legal is (replies_at_once {operation = operation} told ends) e =
     absurd (no_timeout_away told answered required (turned_away opening history lane operation version told ends) e)
-timeout_by opening history entry lane event op version kind reply answered required legal is (replies_decided {at = at} decides) e =
+timeout_by opening history entry lane event op version kind reply answered required valid legal is (replies_decided {at = at} decides) e =
     elim (decided (kind_of decides.request.operation) decides.request.targets decides.request.need decides.answer (answers_of history lane decides.answer.op) reply decides.decided) [
       | inl told ↦ absurd (no_timeout (kind_of decides.request.operation) (greatest_told (decides.answer ∷ answers_of history lane decides.answer.op) decides.request.targets) answered required (sym e ∙ told.reply_is))
       | inr few ↦ let wrong : TimedOut answered required ≡ Stale (refused_count (decides.answer ∷ answers_of history lane decides.answer.op) decides.request.targets) few.fence = sym e ∙ few.reply_is in cc wrong
     ]
-timeout_by opening history entry lane event op version kind reply answered required legal is (replies_given_up request live begun) e =
-    given_up opening history entry lane op request answered required legal is live begun e
+timeout_by opening history entry lane event op version kind reply answered required valid legal is (replies_given_up request live begun) e =
+    given_up opening history entry lane op request answered required valid legal is live begun e
 
 pub timeouts_are_short : TimeoutsAreShort
-timeouts_are_short opening history legal number lane op answered required told =
+timeouts_are_short opening history valid legal number lane op answered required told =
     let came = next_at opening history legal number told.entry told.stands in
-    timeout_by opening (history_before history number) told.entry lane told.entry.event op told.version told.kind (TimedOut answered required) answered required came.legal refl
+    timeout_by opening (history_before history number) told.entry lane told.entry.event op told.version told.kind (TimedOut answered required) answered required valid came.legal refl
     (told_replies opening history number lane op (TimedOut answered required) legal told) refl

@@ -12,7 +12,7 @@ use Rattle.base_ids.specs.declared.ids.Replica.{Replica}
 use Rattle.base_ids.specs.declared.ids.Version.{Version}
 use Rattle.cluster_history.specs.History.{History}
 use Rattle.cluster_history.specs.Legal.{IsLegalHistory, entry_of, outputs_of}
-use Rattle.cluster_history.specs.Messages.{key_of, kind_of}
+use Rattle.cluster_history.specs.Messages.{key_of, kind_of, level_of}
 use Rattle.cluster_history.specs.Openings.{IsValidOpening, opening_state}
 use Rattle.cluster_history.specs.Outputs.{decided_by, reply_list, take_outputs}
 use Rattle.cluster_history.specs.Requests.{Request, answers_of, begun_count, is_event_of, is_live, is_reply_to, live_request, replies_to, request_at, targets_of, taken_answer, with_answer}
@@ -21,7 +21,7 @@ use Rattle.cluster_history.specs.declared.data.Event.{Event}
 use Rattle.cluster_history.specs.declared.data.Opening.{Opening}
 use Rattle.history_facts.proofs.BegunLemmas.{answers_of-above, is_live-above, live_before, request_at-kept}
 use Rattle.history_facts.proofs.HostLemmas.{log_legal}
-use Rattle.history_facts.proofs.NameLemmas.{and_true, or_first, same_lane-refl, same_op-refl}
+use Rattle.base_ids.proofs.NameLemmas.{and_true, or_first, same_lane-refl, same_op-refl}
 use Rattle.history_facts.proofs.RouteLemmas.{routed}
 use Rattle.history_facts.specs.Laws.{IsRouted}
 use Rattle.log_law.proofs.LawLemmas.{sound_states_law}
@@ -32,7 +32,9 @@ use Rattle.quorum_ops.specs.declared.data.Reply.{Reply}
 use Rattle.quorum_ops.specs.declared.data.Reply.TheVariants.{Stale}
 use Rattle.quorum_ops.specs.declared.data.Said.{Said}
 use Rattle.quorum_ops.specs.declared.data.Said.TheVariants.{Found, Stale as Refused, Written}
-use Rattle.stage_graph.specs.Table.{needed}
+use Rattle.stage_graph.proofs.Needs.{asks_no_more, needs_one}
+use Rattle.stage_graph.specs.Needs.{needed}
+use Rattle.stage_graph.specs.declared.level.Level.{Level}
 use Rattle.stage_graph.specs.declared.kind.Kind.{Kind}
 use Rattle.stage_graph.specs.declared.kind.Kind.TheVariants.{Read as ReadKind, Write as WriteKind}
 use Rattle.tablet_map.specs.declared.tablet.Tablet.{Tablet}
@@ -172,19 +174,24 @@ still_hopeful kind targets need answer answers e enough = by_said answer.said re
 
 -- ---- live requests
 
-some_needed : (kind : Kind) (tablet : Tablet) → 1 ≤ needed kind (length tablet.replicas) (stage_in tablet)
-some_needed ReadKind tablet = omega arith
-some_needed WriteKind tablet = omega arith
+-- the tablet to which a request was routed is sound
+pub routed_sound :
+    (opening : Opening) (history : History) (lane : LaneId) (request : Request) → IsValidOpening opening → IsLegalHistory opening history →
+    (route : IsRouted opening history lane request) → IsSoundView route.state.members route.tablet
+routed_sound opening history lane request valid legal route =
+    (sound_states_law (opening_state opening) valid.topology (log_of history) (log_legal opening history legal)).first_views
+    request.version.0 route.state route.found (key_of request.operation).table (key_of request.operation).token route.tablet route.there
 
 -- fewer of a live request's targets have answered than it needs
 pub unanswered :
-    (opening : Opening) (history : History) → IsLegalHistory opening history → (lane : LaneId) (op : OpId) (request : Request) →
+    (opening : Opening) → IsValidOpening opening → (history : History) → IsLegalHistory opening history → (lane : LaneId) (op : OpId) (request : Request) →
     is_live history lane op ≡ true → request_at opening history lane op ≡ Some request → answered_count (answers_of history lane op) request.targets < request.need
-unanswered opening =
+unanswered opening valid =
     live_answers opening (λ request answers. answered_count answers request.targets < request.need)
     (λ history lane op request legal begun.
     let route : IsRouted opening history lane request = routed opening history lane op request begun in
-    let some = some_needed (kind_of request.operation) route.tablet in
+    let sound = routed_sound opening history lane request valid legal route in
+    let some = needs_one (kind_of request.operation) (level_of request.operation) (length route.tablet.replicas) (stage_in route.tablet) sound.sound.replicas.some in
     let none = count_none (has_answered []) (λ replica. refl) request.targets in
     omega (arith, route.need, some, none))
     (λ request answer answers quiet few. still_unanswered (kind_of request.operation) request.targets request.need answer answers quiet few)
@@ -195,16 +202,14 @@ pub enough_targets :
     request_at opening history lane op ≡ Some request → request.need ≤ length request.targets
 enough_targets opening history lane op request valid legal begun =
     let route : IsRouted opening history lane request = routed opening history lane op request begun in
-    let sound : IsSoundView route.state.members route.tablet =
-    (sound_states_law (opening_state opening) valid.topology (log_of history) (log_legal opening history legal)).first_views
-    request.version.0 route.state route.found (key_of request.operation).table (key_of request.operation).token route.tablet route.there in
-    let within = by_kind (kind_of request.operation) route.tablet route.state.members sound in
+    let sound = routed_sound opening history lane request valid legal route in
+    let within = by_kind (kind_of request.operation) (level_of request.operation) route.tablet route.state.members sound in
     let size : length request.targets ≡ length (targets_of (kind_of request.operation) route.tablet) = ap length route.targets in
     omega (arith, route.need, within, size)
   where
-    by_kind : (kind : Kind) (tablet : Tablet) (members : _) → IsSoundView members tablet → needed kind (length tablet.replicas) (stage_in tablet) ≤ length (targets_of kind tablet)
-    by_kind ReadKind tablet members sound = omega (arith, sound.reads_size, sound.sound.replicas.some)
-    by_kind WriteKind tablet members sound = omega (arith, sound.writes_size, sound.sound.replicas.some)
+    by_kind : (kind : Kind) (level : Level) (tablet : Tablet) (members : _) → IsSoundView members tablet → needed kind level (length tablet.replicas) (stage_in tablet) ≤ length (targets_of kind tablet)
+    by_kind ReadKind level tablet members sound = let most = asks_no_more level (length tablet.replicas) sound.sound.replicas.some in omega (arith, sound.reads_size, most)
+    by_kind WriteKind level tablet members sound = let most = asks_no_more level (length tablet.replicas) sound.sound.replicas.some in omega (arith, sound.writes_size, most)
 
 -- those of a live request's targets that have not refused are as many as it needs
 pub hopeful :
@@ -222,6 +227,6 @@ hopeful opening valid =
 pub live_requests_are_undecided : LiveRequestsAreUndecided
 live_requests_are_undecided opening history lane op request valid legal live begun =
     record {
-      unanswered = unanswered opening history legal lane op request live begun;
+      unanswered = unanswered opening valid history legal lane op request live begun;
       hopeful = hopeful opening valid history legal lane op request live begun;
     }

@@ -30,7 +30,7 @@ use Rattle.cluster_history.specs.declared.data.Operation.{Operation}
 use Rattle.cluster_history.specs.declared.data.Operation.TheVariants.{Read as ReadOf, Write as WriteOf}
 use Rattle.cluster_history.specs.declared.data.Output.{Output}
 use Rattle.history_facts.proofs.LegalLemmas.{sent_split}
-use Rattle.history_facts.proofs.NameLemmas.{both_true}
+use Rattle.base_ids.proofs.NameLemmas.{both_true}
 use Rattle.history_facts.proofs.SentLemmas.{Sends, sends}
 use Rattle.history_facts.proofs.SentLemmas.Sends.{sends_ask, sends_chunk, sends_chunk_ask, sends_cleaned, sends_fact, sends_found, sends_not_mine, sends_question, sends_written}
 use Rattle.quorum_ops.specs.declared.data.WriteAsk.{WriteAsk}
@@ -55,7 +55,7 @@ key_at table token = record { table = table; token = token }
 
 pub written-later : (history : History) (entry : Entry) (key : Key) (cell : Cell) → IsWritten history key cell → IsWritten (entry ∷ history) key cell
 written-later history entry key cell was =
-    record { at = was.at; lane = was.lane; op = was.op; begins = begun_at-later history entry was.at was.lane was.op (WriteOf key.table key.token cell) was.begins }
+    record { at = was.at; lane = was.lane; op = was.op; level = was.level; begins = begun_at-later history entry was.at was.lane was.op (WriteOf key.table key.token cell was.level) was.begins }
 
 -- ---- lists of cells
 
@@ -103,9 +103,10 @@ gained_written history (first ∷ cells) key cell all e =
 -- what a write ask that was sent asks was begun to be written
 pub ask_written : (opening : Opening) (history : History) (at : MsgRef) (ask : WriteAsk) → IsLegalHistory opening history → message_at history at ≡ Some (WriteSent ask) → IsWritten history (written_key ask) ask.cell
 ask_written opening history at ask legal sent =
-    let asked : IsAsked opening history ask.lane ask.op ask.version (WriteOf ask.table ask.token ask.cell) ask.to = ask_fact opening history legal at (WriteSent ask) sent in
+    let fact = ask_fact opening history legal at (WriteSent ask) sent in
+    let asked : IsAsked opening history ask.lane ask.op ask.version (WriteOf ask.table ask.token ask.cell fact.0) ask.to = fact.1 in
     let by : IsBegunBy history ask.lane ask.op asked.request.operation = request_entry opening history ask.lane ask.op asked.request asked.begun in
-    record { at = by.number; lane = ask.lane; op = ask.op; begins = subst (IsBegunAt history by.number ask.lane ask.op) asked.operation_is by.begun }
+    record { at = by.number; lane = ask.lane; op = ask.op; level = fact.0; begins = subst (IsBegunAt history by.number ask.lane ask.op) asked.operation_is by.begun }
 
 -- ---- chunks
 
@@ -156,8 +157,8 @@ chunk_by opening history event message chunk valid legal held (sends_ask {lane =
     absurd (no_chunk operation e)
   where
     no_chunk : (operation : Operation) → ask_of lane (next_op history lane) version operation to ≡ ChunkSent chunk → ⊥
-    no_chunk (WriteOf table token cell) e = cc e
-    no_chunk (ReadOf table token) e = cc e
+    no_chunk (WriteOf table token cell level) e = cc e
+    no_chunk (ReadOf table token level) e = cc e
 chunk_by opening history event message chunk valid legal held (sends_written asked sent here) e = cc e
 chunk_by opening history event message chunk valid legal held (sends_found asked sent here) e = cc e
 chunk_by opening history event message chunk valid legal held (sends_fact asked sent here so) e = cc e

@@ -37,12 +37,12 @@ use Rattle.cluster_history.specs.declared.data.Operation.TheVariants.{Read as Re
 use Rattle.group0_log.specs.Log.{state_at}
 use Rattle.history_facts.proofs.HostLemmas.{applied-rises, floor-rises, log_legal}
 use Rattle.history_facts.proofs.LegalLemmas.{sent_split}
-use Rattle.history_facts.proofs.NameLemmas.{both_true, same_host-same, same_session-same}
+use Rattle.base_ids.proofs.NameLemmas.{both_true, same_host-same, same_session-same}
 use Rattle.history_facts.proofs.SentLemmas.{Sends, sends}
 use Rattle.history_facts.proofs.SentLemmas.Sends.{sends_ask, sends_chunk, sends_chunk_ask, sends_cleaned, sends_fact, sends_found, sends_not_mine, sends_question, sends_written}
 use Rattle.log_law.proofs.RisingLemmas.{rising_states}
 use Rattle.topo_state.specs.State.{Topology}
-use Rattle.barrier_law.specs.Laws.{EvidenceIsTrue, IsSo, SentFactsAreTrue}
+use Rattle.barrier_law.specs.Laws.{EvidenceIsTrue, HasReached, SentFactsAreTrue}
 
 -- ---- fences do not fall
 
@@ -58,7 +58,7 @@ fence_of-rises opening history entry host legal =
 
 pub so-later :
     (opening : Opening) (history : History) (entry : Entry) (host : HostId) (what : What) → IsLegalHistory opening (entry ∷ history) →
-    IsSo opening history host what → IsSo opening (entry ∷ history) host what
+    HasReached opening history host what → HasReached opening (entry ∷ history) host what
 so-later opening history entry host (Drain version) legal so =
     let rises = floor-rises history entry host in omega (arith, so, rises)
 so-later opening history entry host (FenceAt version) legal so =
@@ -69,26 +69,26 @@ so-later opening history entry host what legal so = tt
 
 told_so :
     (opening : Opening) (history : History) (host : HostId) (what : What) →
-    is_so (floor_of history host) (applied_state opening history host) (has_done opening history host) what ≡ true → IsSo opening history host what
+    is_so (floor_of history host) (applied_state opening history host) (has_done opening history host) what ≡ true → HasReached opening history host what
 told_so opening history host (Drain version) e = grind (arith, nat_tests)
 told_so opening history host (FenceAt version) e = grind (arith, nat_tests)
 told_so opening history host what e = tt
 
 -- what a message tells
 abbrev Tells : Opening → History → Message → Type 0
-Tells opening history (FactSent fact) = IsSo opening history fact.from fact.what
+Tells opening history (FactSent fact) = HasReached opening history fact.from fact.what
 Tells opening history message = Unit {0}
 
 asks_only : (opening : Opening) (history : History) (lane : LaneId) (op : OpId) (version : Version) (operation : Operation) (to : Replica) → Tells opening history (ask_of lane op version operation to)
-asks_only opening history lane op version (WriteOf table token cell) to = tt
-asks_only opening history lane op version (ReadOf table token) to = tt
+asks_only opening history lane op version (WriteOf table token cell level) to = tt
+asks_only opening history lane op version (ReadOf table token level) to = tt
 
 told_fresh : (opening : Opening) (history : History) (event : Event) (message : Message) → Sends opening history event message → Tells opening history message
 told_fresh opening history event message (sends_ask {lane = lane} {operation = operation} {version = version} route to is among) = asks_only opening history lane (next_op history lane) version operation to
 told_fresh opening history event message (sends_fact ask asked here so) =
-    subst (λ host. IsSo opening history host ask.what) (sym here) (told_so opening history _ ask.what so)
+    subst (λ host. HasReached opening history host ask.what) (sym here) (told_so opening history _ ask.what so)
 told_fresh opening history event message (sends_cleaned ask session asked here what mine) =
-    subst (IsSo opening history ask.to) (sym what) tt
+    subst (HasReached opening history ask.to) (sym what) tt
 told_fresh opening history event message (sends_written ask asked here) = tt
 told_fresh opening history event message (sends_found ask asked here) = tt
 told_fresh opening history event message (sends_chunk ask asked here) = tt
@@ -140,17 +140,17 @@ heard_is history topo event fact e = cc e
 
 noted_so :
     (opening : Opening) (history : History) (facts : List Told) (fact : Fact) (host : HostId) (what : What) →
-    IsSo opening history fact.from fact.what → (has_told facts what host ≡ true → IsSo opening history host what) →
-    has_told (noted_facts facts fact) what host ≡ true → IsSo opening history host what
+    HasReached opening history fact.from fact.what → (has_told facts what host ≡ true → HasReached opening history host what) →
+    has_told (noted_facts facts fact) what host ≡ true → HasReached opening history host what
 noted_so opening history facts fact host what so older told =
-    (elim (has_told facts fact.what fact.from) as (λ b. has_told (if b then facts else record { from = fact.from; what = fact.what } ∷ facts) what host ≡ true → IsSo opening history host what) [
+    (elim (has_told facts fact.what fact.from) as (λ b. has_told (if b then facts else record { from = fact.from; what = fact.what } ∷ facts) what host ≡ true → HasReached opening history host what) [
       | true ↦ older
       | false ↦ λ f.
-          (elim (same_told (record { from = host; what = what }) (record { from = fact.from; what = fact.what })) as (λ b. same_told (record { from = host; what = what }) (record { from = fact.from; what = fact.what }) ≡ b → (b || has_told facts what host) ≡ true → IsSo opening history host what) [
+          (elim (same_told (record { from = host; what = what }) (record { from = fact.from; what = fact.what })) as (λ b. same_told (record { from = host; what = what }) (record { from = fact.from; what = fact.what }) ≡ b → (b || has_told facts what host) ≡ true → HasReached opening history host what) [
             | true ↦ λ same g.
                 let both = both_true (same_host host fact.from) (same_what what fact.what) same in
-                subst (λ x. IsSo opening history x what) (sym (same_host-same host fact.from both.0))
-                (subst (IsSo opening history fact.from) (sym (what_same what fact.what both.1)) so)
+                subst (λ x. HasReached opening history x what) (sym (same_host-same host fact.from both.0))
+                (subst (HasReached opening history fact.from) (sym (what_same what fact.what both.1)) so)
             | false ↦ λ same g. older g
           ]) refl f
     ]) told
@@ -159,12 +159,12 @@ pub heard_facts : EvidenceIsTrue
 heard_facts opening [] topo host what legal told = cc told
 heard_facts opening (entry ∷ history) topo host what legal told =
     so-later opening history entry host what legal
-    ((elim (is_restart_of (ByTopo topo) entry.event) as (λ b. has_told (if b then [] else with_fact (heard_fact history topo entry.event) (evidence_of history topo)) what host ≡ true → IsSo opening history host what) [
+    ((elim (is_restart_of (ByTopo topo) entry.event) as (λ b. has_told (if b then [] else with_fact (heard_fact history topo entry.event) (evidence_of history topo)) what host ≡ true → HasReached opening history host what) [
       | true ↦ λ f. cc f
       | false ↦ λ f. by_fact (heard_fact history topo entry.event) refl (heard_facts opening history topo host what legal.1) f
     ]) told)
   where
-    by_fact : (heard : Option Fact) → heard_fact history topo entry.event ≡ heard → (has_told (evidence_of history topo) what host ≡ true → IsSo opening history host what) → has_told (with_fact heard (evidence_of history topo)) what host ≡ true → IsSo opening history host what
+    by_fact : (heard : Option Fact) → heard_fact history topo entry.event ≡ heard → (has_told (evidence_of history topo) what host ≡ true → HasReached opening history host what) → has_told (with_fact heard (evidence_of history topo)) what host ≡ true → HasReached opening history host what
     by_fact None is older f = older f
     by_fact (Some fact) is older f =
         let sent = heard_is history topo entry.event fact is in

@@ -1,7 +1,7 @@
 -- Requests that come late are refused.
 use Rattle.std.proofs.Common.{ap, arith, refl, subst, sym, ◌∙◌}
 use Rattle.std.proofs.lemmas.Bool.Decides.{nat_tests}
-use Rattle.std.specs.Prelude.{Some, [], if◌then◌else◌, nat_lt, true, ◌+◌, ◌<◌, ◌==◌, ◌||◌, ◌∷◌, ◌≡◌, ◌≤◌}
+use Rattle.std.specs.Prelude.{Some, if◌then◌else◌, nat_lt, true, ◌+◌, ◌<◌, ◌≡◌, ◌≤◌}
 use Rattle.base_ids.specs.Replicas.{has_host, has_replica}
 use Rattle.base_ids.specs.declared.ids.HostId.{HostId}
 use Rattle.base_ids.specs.declared.ids.LaneId.{LaneId}
@@ -24,7 +24,7 @@ use Rattle.cluster_history.specs.declared.data.Opening.{Opening}
 use Rattle.cluster_history.specs.declared.data.Operation.{Operation}
 use Rattle.cluster_history.specs.declared.data.Operation.TheVariants.{Read as ReadOf, Write as WriteOf}
 use Rattle.history_facts.proofs.HostLemmas.{log_legal}
-use Rattle.history_facts.proofs.NameLemmas.{or_first}
+use Rattle.base_ids.proofs.NameLemmas.{or_first}
 use Rattle.history_facts.proofs.RouteLemmas.{held_back, routed}
 use Rattle.history_facts.proofs.SentLemmas.{Sends, sends}
 use Rattle.history_facts.proofs.SentLemmas.Sends.{sends_ask, sends_chunk, sends_chunk_ask, sends_cleaned, sends_fact, sends_found, sends_not_mine, sends_question, sends_written}
@@ -122,23 +122,25 @@ late_sent opening history event message answer request valid legal (sends_writte
     let made : Answer = record { lane = ask.lane; op = ask.op; from = ask.to; said = said_to ask.version (fence_of opening history host) Written } in
     let same : made ≡ answer = answer_same made answer is in
     let P : Answer → Type 0 = λ a. is_live history a.lane a.op ≡ true → request_at opening history a.lane a.op ≡ Some request → IsRefusal request.version a.said in
+    let fact = ask_fact opening history legal at (WriteSent ask) asked in
     subst P same
-    (λ was_live was_begun. late_by opening history ask.lane ask.op ask.version (WriteOf ask.table ask.token ask.cell) ask.to host Written request valid legal (ask_fact opening history legal at (WriteSent ask) asked) here was_live was_begun late)
+    (λ was_live was_begun. late_by opening history ask.lane ask.op ask.version (WriteOf ask.table ask.token ask.cell fact.0) ask.to host Written request valid legal fact.1 here was_live was_begun late)
     live begun
 late_sent opening history event message answer request valid legal (sends_found {host = host} {at = at} ask asked here) is live begun late =
     let told = Found (held_cell opening history host (read_key ask)) in
     let made : Answer = record { lane = ask.lane; op = ask.op; from = ask.to; said = said_to ask.version (fence_of opening history host) told } in
     let same : made ≡ answer = answer_same made answer is in
     let P : Answer → Type 0 = λ a. is_live history a.lane a.op ≡ true → request_at opening history a.lane a.op ≡ Some request → IsRefusal request.version a.said in
+    let fact = ask_fact opening history legal at (ReadSent ask) asked in
     subst P same
-    (λ was_live was_begun. late_by opening history ask.lane ask.op ask.version (ReadOf ask.table ask.token) ask.to host told request valid legal (ask_fact opening history legal at (ReadSent ask) asked) here was_live was_begun late)
+    (λ was_live was_begun. late_by opening history ask.lane ask.op ask.version (ReadOf ask.table ask.token fact.0) ask.to host told request valid legal fact.1 here was_live was_begun late)
     live begun
 late_sent opening history event message answer request valid legal (sends_ask {lane = lane} {operation = operation} {version = version} route to there among) is live begun late =
     absurd (no_answer operation is)
   where
     no_answer : (operation : Operation) → ask_of lane (next_op history lane) version operation to ≡ AnswerSent answer → ⊥
-    no_answer (WriteOf table token cell) e = cc e
-    no_answer (ReadOf table token) e = cc e
+    no_answer (WriteOf table token cell level) e = cc e
+    no_answer (ReadOf table token level) e = cc e
 late_sent opening history event message answer request valid legal (sends_chunk ask asked here) is live begun late = cc is
 late_sent opening history event message answer request valid legal (sends_fact ask asked here so) is live begun late = cc is
 late_sent opening history event message answer request valid legal (sends_cleaned ask session asked here what mine) is live begun late = cc is

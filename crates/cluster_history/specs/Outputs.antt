@@ -9,7 +9,7 @@ use Rattle.base_ids.specs.declared.ids.Replica.{Replica}
 use Rattle.base_ids.specs.declared.ids.Session.{Session}
 use Rattle.base_ids.specs.declared.ids.Version.{Version}
 use Rattle.cell_merge.specs.declared.cell.Cell.{Cell}
-use Rattle.group0_log.specs.Log.{outcome_of}
+use Rattle.base_ids.specs.Outcomes.{outcome_of}
 use Rattle.quorum_ops.specs.Decision.{decision, timeout_reply}
 use Rattle.quorum_ops.specs.declared.data.Answer.{Answer}
 use Rattle.quorum_ops.specs.declared.data.Reply.{Reply}
@@ -35,9 +35,9 @@ use Rattle.cluster_history.specs.declared.data.Output.TheVariants.{Proposed, Pul
 
 -- what a lane sends to a target
 abbrev pub ask_of : LaneId → OpId → Version → Operation → Replica → Message
-ask_of lane op version (WriteOf table token cell) to =
+ask_of lane op version (WriteOf table token cell level) to =
     WriteSent (record { lane = lane; op = op; version = version; table = table; token = token; cell = cell; to = to })
-ask_of lane op version (ReadOf table token) to =
+ask_of lane op version (ReadOf table token level) to =
     ReadSent (record { lane = lane; op = op; version = version; table = table; token = token; to = to })
 
 -- that ask, as an output

@@ -12,7 +12,8 @@ use Rattle.base_ids.specs.declared.ids.Version.{Version}
 use Rattle.quorum_ops.specs.declared.data.Answer.{Answer}
 use Rattle.quorum_ops.specs.declared.data.Reply.{Reply}
 use Rattle.quorum_ops.specs.declared.data.Reply.TheVariants.{NoTable, NotMember}
-use Rattle.stage_graph.specs.Table.{needed}
+use Rattle.stage_graph.specs.Needs.{needed}
+use Rattle.stage_graph.specs.declared.level.Level.{Level}
 use Rattle.stage_graph.specs.declared.kind.Kind.{Kind}
 use Rattle.stage_graph.specs.declared.kind.Kind.TheVariants.{Read as ReadKind, Write as WriteKind}
 use Rattle.tablet_map.specs.declared.tablet.Tablet.{Tablet}
@@ -20,7 +21,7 @@ use Rattle.topo_state.specs.Lists.{reads_of, stage_in, writes_of}
 use Rattle.topo_state.specs.State.{Topology, is_member}
 use Rattle.topo_state.specs.Views.{view}
 use Rattle.cluster_history.specs.History.{History, is_restart_of, message_at}
-use Rattle.cluster_history.specs.Messages.{key_of, kind_of}
+use Rattle.cluster_history.specs.Messages.{key_of, kind_of, level_of}
 use Rattle.cluster_history.specs.Topology.{state_of_version}
 use Rattle.cluster_history.specs.declared.data.Entry.{Entry}
 use Rattle.cluster_history.specs.declared.data.Event.{Event}
@@ -50,17 +51,22 @@ targets_of ReadKind tablet = reads_of tablet
 targets_of WriteKind tablet = writes_of tablet
 
 -- by the tablet of the operation's key, where the table is there
-abbrev pub way_by : Kind → Option Tablet → Way
-way_by kind None = Ends NoTable
-way_by kind (Some tablet) =
-    Goes (record { targets = targets_of kind tablet; need = needed kind (length tablet.replicas) (stage_in tablet) })
+abbrev pub way_by : Kind → Level → Option Tablet → Way
+way_by kind level None = Ends NoTable
+way_by kind level (Some tablet) =
+    Goes (record {
+      targets = targets_of kind tablet;
+      need = needed kind level (length tablet.replicas) (stage_in tablet);
+    })
 
 -- in a state: the lane's host must be a member, and the table there; no enabled begin is at a version without a state
 abbrev pub way_in : Option Topology → HostId → Operation → Way
 way_in None host operation = Ends NotMember
 way_in (Some state) host operation =
     if is_member state.members host
-    then way_by (kind_of operation) (view state (key_of operation).table (key_of operation).token.value)
+    then
+    way_by (kind_of operation) (level_of operation)
+    (view state (key_of operation).table (key_of operation).token.value)
     else Ends NotMember
 
 -- at a version: in the first state that has it

@@ -6,7 +6,7 @@ use base_ids::{
 use cell_merge::Cell;
 use quorum_ops::{Answer, ReadAsk, Reply, WriteAsk};
 use shared_value::Shared;
-use stage_graph::Kind;
+use stage_graph::{Kind, Level};
 use stream_core::{ChunkAsk, ChunkMsg};
 use token_ring::Token;
 use topo_state::{Command, Rule, TableList};
@@ -14,7 +14,7 @@ use topo_state::{Command, Rule, TableList};
 /// How the cluster stands before its first event.
 #[derive(Debug, Drop)]
 pub struct Opening {
-    /// The hosts are those numbered from 0 to below this: 1 to 64, and 0 in the opening of no cluster.
+    /// The hosts are those numbered from 0 to below this: 1 to 256, and 0 in the opening of no cluster.
     pub hosts: u16,
     /// Each host has the lanes numbered from 0 to below this: 1 to 4.
     pub lanes: u8,
@@ -37,6 +37,8 @@ pub enum Operation {
         token: Token,
         /// The cell to write. Its timestamp is the client's.
         cell: Cell,
+        /// How many replicas have to answer.
+        level: Level,
     },
     /// To read the cell.
     Read {
@@ -44,6 +46,8 @@ pub enum Operation {
         table: TableId,
         /// The token that is read.
         token: Token,
+        /// How many replicas have to answer.
+        level: Level,
     },
 }
 

@@ -9,7 +9,8 @@ ghost use Rattle.lane_core.specs.declared.data.LaneInput.{LaneInput};
 ghost use Rattle.lane_ties.specs.LaneTies.{begin_input, take_input};
 ghost use Rattle.topo_ties.specs.TopoTies.{heard_input};
 ghost use Rattle.group0_log.specs.Log.{command_at};
-ghost use Rattle.cluster_machine.specs.Inputs.{host_input_by, lane_input_by, snapshot_in, topo_input_by};
+ghost use Rattle.cluster_machine.specs.Inputs.{host_input_by, lane_input_by, topo_input_by};
+ghost use Rattle.snapshot_log.specs.First.{first_with};
 
 use crate::lookup::message_at;
 use barrier_core::Ask;
@@ -20,6 +21,7 @@ use host_core::HostInput;
 use lane_core::LaneInput;
 use meta_snap::Snapshot;
 use shared_value::Shared;
+use snapshot_log::SnapshotLog;
 use std::alloc::Global;
 use topo_coord::TopoInput;
 
@@ -89,31 +91,31 @@ pub(crate) fn host_input(
     }
 }
 
-/// The first state of a version.
-fn snapshot_in(snapshots: &[Shared<Snapshot>], version: Version) -> Option<&Shared<Snapshot>>
-    ensures { option_copied result ≡ snapshot_in snapshots.now version }
-{
-    if version.0 == 0 {
-        None
-    } else {
-        snapshots.get((version.0 - 1) as usize)
-    }
-}
-
 /// The input of a begin with the topology that the request uses.
 fn begin_with(operation: &Operation, snapshot: Shared<Snapshot>) -> LaneInput
     ensures { result ≡ begin_input operation.now snapshot }
 {
     match operation {
-        Operation::Write { table, token, cell } => LaneInput::Write {
+        Operation::Write {
+            table,
+            token,
+            cell,
+            level,
+        } => LaneInput::Write {
             table: *table,
             token: *token,
             cell: *cell,
+            level: *level,
             snapshot,
         },
-        Operation::Read { table, token } => LaneInput::Read {
+        Operation::Read {
+            table,
+            token,
+            level,
+        } => LaneInput::Read {
             table: *table,
             token: *token,
+            level: *level,
             snapshot,
         },
     }
@@ -121,14 +123,13 @@ fn begin_with(operation: &Operation, snapshot: Shared<Snapshot>) -> LaneInput
 
 /// The input of a begin at a version.
 fn begin_input(
-    snapshots: &[Shared<Snapshot>],
+    log: &SnapshotLog,
     operation: &Operation,
     version: Version,
 ) -> Result<Option<LaneInput>, NoMemory>
-    ensures { IfOk result
-        (λ input. input ≡ option_map (begin_input operation.now) (snapshot_in snapshots.now version)) }
+    ensures { IfOk result (λ input. input ≡ option_map (begin_input operation.now) (first_with log.now version)) }
 {
-    match snapshot_in(snapshots, version) {
+    match log.snapshot(version) {
         None => Ok(None),
         Some(snapshot) => {
             let shared = snapshot.share()?;
@@ -150,17 +151,17 @@ fn take_input(message: Option<&Message>) -> Option<LaneInput>
 /// What an event gives to a lane; nothing where it is no event of a lane, or a restart.
 pub(crate) fn lane_input(
     entries: &[Entry],
-    snapshots: &[Shared<Snapshot>],
+    log: &SnapshotLog,
     event: &Event,
 ) -> Result<Option<LaneInput>, NoMemory>
-    ensures { IfOk result (λ input. input ≡ lane_input_by snapshots.now (reverse entries.now) event.now) }
+    ensures { IfOk result (λ input. input ≡ lane_input_by log.now (reverse entries.now) event.now) }
 {
     match event {
         Event::Begin {
             operation,
             version,
             ..
-        } => begin_input(snapshots, operation, *version),
+        } => begin_input(log, operation, *version),
         Event::Take { at, .. } => Ok(take_input(message_at(entries, *at))),
         Event::Timeout { op, .. } => Ok(Some(LaneInput::Timeout(*op))),
         _ => Ok(None),

@@ -17,7 +17,7 @@ use Rattle.cluster_history.proofs.StayLemmas.{begins_well, version_of-rises}
 use Rattle.cluster_history.proofs.WithinLemmas.{applied_within}
 use Rattle.cluster_history.specs.History.{History}
 use Rattle.cluster_history.specs.Legal.{HasActor, broken_rule}
-use Rattle.cluster_history.specs.Messages.{key_of, kind_of}
+use Rattle.cluster_history.specs.Messages.{key_of, kind_of, level_of}
 use Rattle.cluster_history.specs.Openings.{HasLane, opening_state}
 use Rattle.cluster_history.specs.Requests.{Request, Way, begins_request, begun_count, has_live_below, is_begin_of, is_below, is_live, lags, live_count, live_ops, numbers_below, request_at, request_on, started_request, targets_of, way_by, way_in, way_of}
 use Rattle.cluster_history.specs.Requests.Way.{Ends, Goes}
@@ -29,7 +29,7 @@ use Rattle.cluster_history.specs.declared.data.Event.TheVariants.{Begin, Quiet}
 use Rattle.cluster_history.specs.declared.data.Opening.{Opening}
 use Rattle.cluster_history.specs.declared.data.Operation.{Operation}
 use Rattle.quorum_ops.specs.declared.data.Reply.TheVariants.{NotMember}
-use Rattle.stage_graph.specs.Table.{needed}
+use Rattle.stage_graph.specs.Needs.{needed}
 use Rattle.tablet_map.specs.declared.tablet.Tablet.{Tablet}
 use Rattle.topo_state.specs.Lists.{stage_in}
 use Rattle.topo_state.specs.State.{Topology, is_member}
@@ -37,7 +37,7 @@ use Rattle.topo_state.specs.Views.{view}
 use Rattle.history_facts.proofs.BegunLemmas.{live_before, request_begun}
 use Rattle.history_facts.proofs.HostLemmas.{greater-below}
 use Rattle.history_facts.proofs.LiveLemmas.{live_ops-any}
-use Rattle.history_facts.proofs.NameLemmas.{both_true, or_false, same_host-same, same_lane-same, same_op-same}
+use Rattle.base_ids.proofs.NameLemmas.{both_true, or_false, same_host-same, same_lane-same, same_op-same}
 use Rattle.history_facts.specs.Laws.{IsHeldBack, IsRouted, LiveRequestsHoldBack, RequestsAreRouted}
 
 -- ---- routes
@@ -68,15 +68,15 @@ routed_by :
     IsRouted opening history lane request
 routed_by opening history lane operation version None request found e = cc e
 routed_by opening history lane operation version (Some state) request found e =
-    (elim (is_member state.members lane.host) as (λ b. is_member state.members lane.host ≡ b → request_on operation version (if b then way_by (kind_of operation) (view state (key_of operation).table (key_of operation).token.value) else Ends NotMember) ≡ Some request → IsRouted opening history lane request) [
+    (elim (is_member state.members lane.host) as (λ b. is_member state.members lane.host ≡ b → request_on operation version (if b then way_by (kind_of operation) (level_of operation) (view state (key_of operation).table (key_of operation).token.value) else Ends NotMember) ≡ Some request → IsRouted opening history lane request) [
       | true ↦ λ member f. by_view (view state (key_of operation).table (key_of operation).token.value) refl member f
       | false ↦ λ member f. cc f
     ]) refl e
   where
-    by_view : (shown : Option Tablet) → view state (key_of operation).table (key_of operation).token.value ≡ shown → is_member state.members lane.host ≡ true → request_on operation version (way_by (kind_of operation) shown) ≡ Some request → IsRouted opening history lane request
+    by_view : (shown : Option Tablet) → view state (key_of operation).table (key_of operation).token.value ≡ shown → is_member state.members lane.host ≡ true → request_on operation version (way_by (kind_of operation) (level_of operation) shown) ≡ Some request → IsRouted opening history lane request
     by_view None there member f = cc f
     by_view (Some tablet) there member f =
-        let made : Request = record { operation = operation; version = version; targets = targets_of (kind_of operation) tablet; need = needed (kind_of operation) (length tablet.replicas) (stage_in tablet) } in
+        let made : Request = record { operation = operation; version = version; targets = targets_of (kind_of operation) tablet; need = needed (kind_of operation) (level_of operation) (length tablet.replicas) (stage_in tablet) } in
         let same : made ≡ request = cc f in
         subst (IsRouted opening history lane) same
         (record { state = state; found = found; member = member; tablet = tablet; there = there; targets = refl; need = refl })

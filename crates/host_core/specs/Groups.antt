@@ -16,6 +16,8 @@ use Rattle.replica_store.specs.Cells.{IsRegrouped}
 use Rattle.host_core.specs.Host.{HostView, next_state}
 use Rattle.host_core.specs.declared.data.HostInput.{HostInput}
 use Rattle.host_core.specs.declared.data.HostInput.TheVariants.{Apply, Answer as AnswerAsk}
+use Rattle.host_core.specs.declared.data.Made.{Made}
+use Rattle.host_core.specs.declared.data.Made.TheVariants.{State, Sent}
 use Rattle.host_core.specs.declared.grouping.Grouping.{Grouping}
 
 -- the table that a command makes or resizes
@@ -46,6 +48,12 @@ grouping_told state what = None
 abbrev pub grouping_next : Option Topology → Option TableId → Option Grouping
 grouping_next None id = None
 grouping_next (Some next) id = grouping_for next id
+
+-- the state after a command, where it was made
+abbrev pub state_in : Option Made → Option Topology
+state_in (Some (State next)) = Some next
+state_in (Some (Sent chunk)) = None
+state_in None = None
 
 -- by the state and the one after the command, where one is applied
 abbrev pub grouping_by : Topology → Option Topology → HostInput → Option Grouping

@@ -3,7 +3,7 @@ use barrier_core::{Ask, Fact};
 use base_ids::{HostId, Session, Version};
 use quorum_ops::{Answer, ReadAsk, WriteAsk};
 use shared_value::Shared;
-use stream_core::{ChunkAsk, ChunkMsg, Pull};
+use stream_core::{ChunkAsk, ChunkMsg};
 use topo_state::{Command, TopoState};
 
 /// What a host takes. Each event of a host is exactly one of these.
@@ -55,13 +55,11 @@ pub enum HostOut {
     Pulling(Session),
 }
 
-/// What is made of an input before it is settled, since it takes memory.
+/// What is made of an input before it is settled, where that takes memory.
 #[derive(Drop)]
-pub struct Made {
-    /// What comes of it.
-    pub out: HostOut,
-    /// The state after the command, where one is applied.
-    pub next: Option<TopoState>,
-    /// The pull that begins, where one does.
-    pub begun: Option<Pull>,
+pub enum Made {
+    /// The state after the command that is applied.
+    State(TopoState),
+    /// The chunk that was asked for.
+    Sent(Shared<ChunkMsg>),
 }

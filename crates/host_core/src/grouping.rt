@@ -1,9 +1,9 @@
 //! Which table is regrouped at an input.
 ghost use Rattle.std.specs.Prelude.{◌≡◌, ◌≤◌, IfSome, OnOk, OnErr, None};
 ghost use Rattle.base_ids.specs.declared.ids.TableId.{TableId};
-ghost use Rattle.host_core.specs.Groups.{grouped_table, grouping_for, grouping_told, grouping_by, runs_with, AreLeft};
+ghost use Rattle.host_core.specs.Groups.{grouped_table, grouping_for, grouping_told, grouping_by, state_in, runs_with, AreLeft};
 
-use crate::data::HostInput;
+use crate::data::{HostInput, Made};
 use barrier_core::What;
 use base_ids::{NoMemory, TableId};
 use replica_store::Store;
@@ -71,18 +71,14 @@ pub fn grouping_told(state: &TopoState, what: What) -> Option<Grouping>
 }
 
 /// The table that is regrouped at an input.
-pub fn grouping_of(
-    state: &TopoState,
-    next: &Option<TopoState>,
-    input: &HostInput,
-) -> Option<Grouping>
-    ensures grouping { result ≡ grouping_by state.now next.now input.now }
+pub fn grouping_of(state: &TopoState, made: &Option<Made>, input: &HostInput) -> Option<Grouping>
+    ensures grouping { result ≡ grouping_by state.now (state_in made.now) input.now }
     ensures few { IfSome result (λ grouping. grouping.log2 ≤ 10) }
 {
     match input {
-        HostInput::Apply(command) => match next {
-            Some(next) => grouping_for(next, grouped_table(command.get())),
-            None => None,
+        HostInput::Apply(command) => match made {
+            Some(Made::State(next)) => grouping_for(next, grouped_table(command.get())),
+            Some(Made::Sent(_)) | None => None,
         },
         HostInput::Answer(ask) => grouping_told(state, ask.what),
         _ => None,

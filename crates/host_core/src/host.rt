@@ -1,7 +1,7 @@
 //! A host over a store.
 ghost use Rattle.std.specs.Prelude.{◌≡◌, ◌≤◌, [], IfOk, OnOk, OnErr, MatchResult, None, Some};
 ghost use Rattle.base_ids.specs.declared.ids.TableId.{TableId};
-ghost use Rattle.host_core.specs.Host.{first_host, is_pulled, holds_here, pull_input_rule, host_rule, next_state, next_pull, host_after, host_out, restarted_host, CanTake};
+ghost use Rattle.host_core.specs.Host.{first_host, is_pulled, holds_here, pull_input_rule, host_rule, host_after, host_out, restarted_host, CanApply, CanTake};
 ghost use Rattle.host_core.specs.Pulls.{pull_in, pull_of_state};
 ghost use Rattle.host_core.specs.Groups.{grouping_of, runs_with, AreLeft};
 
@@ -10,12 +10,12 @@ use crate::pulls::PullTable;
 use crate::{effects, grouping, making};
 use barrier_core::What;
 use base_ids::{EventRule, FIRST_VERSION, HostId, NoMemory, Session, Version};
-use replica_core::serve_write;
+use replica_core::{serve_read, serve_write};
 use replica_store::Store;
 use std::alloc::Global;
 use std::marker::Model;
-use stream_core::Pull;
-use topo_state::{TopoState, has_split};
+use stream_core::ChunkAsk;
+use topo_state::{Command, TopoState, has_split};
 
 /// An input whose memory was taken. It is seen as that input.
 #[derive(Drop)]
@@ -72,7 +72,9 @@ impl<S: Store> Model for HostCore<S> {
 }
 
 impl<S: Store> HostCore<S> {
-    ghost use Rattle.host_core.specs.Ready.{HasMade, made_of, needed_cells, needed_pulls};
+    ghost use Rattle.host_core.specs.Ready.{HasMade, IsMade, needed_cells, needed_pulls};
+    ghost use Rattle.host_core.specs.declared.data.HostInput.{HostInput};
+    ghost use Rattle.replica_store.specs.Cells.{IsOrdered};
 
     /// A host that has applied nothing and holds nothing, over the opening's state and an empty store.
     pub fn new(alloc: Global, host: HostId, opening: TopoState, store: S) -> HostCore<S>
@@ -131,6 +133,25 @@ impl<S: Store> HostCore<S> {
         &self.store
     }
 
+    /// Gives its store away, with the cells that it holds.
+    pub fn into_store(self) -> S
+        ensures cells { S.cells result ≡ self.core.cells }
+        ensures store { result ≡ self.store }
+        ensures ordered { IsOrdered (S.cells result) }
+    {
+        let HostCore {
+            alloc: _,
+            host: _,
+            applied: _,
+            state: _,
+            floor: _,
+            store,
+            pulls: _,
+            made: _,
+        } = self;
+        store
+    }
+
     /// Whether the host can tell it.
     fn is_so(&self, what: What) -> bool
         ensures { result ≡ holds_here self.now.core what }
@@ -180,6 +201,7 @@ impl<S: Store> HostCore<S> {
     /// Makes room for what the input puts and begins.
     fn make_room(&mut self, input: &HostInput) -> Result<(), NoMemory>
         ensures core { self.new.core ≡ self.old.core }
+        ensures made { self.new.made ≡ self.old.made }
         ensures cells { OnOk result (needed_cells input.now ≤ self.new.room) }
         ensures pulls { OnOk result (needed_pulls input.now ≤ self.new.pull_room) }
         ensures runs { (t : TableId) → S.runs self.new.store t ≡ S.runs self.old.store t }
@@ -192,59 +214,52 @@ impl<S: Store> HostCore<S> {
         }
     }
 
-    /// The state after the command, where one is applied.
-    fn make_next(&self, input: &HostInput) -> Result<Option<TopoState>, NoMemory>
-        requires { CanTake self.now.core input.now }
-        ensures { IfOk result (λ next. next ≡ next_state self.now.core input.now) }
+    /// Makes the state after the command.
+    fn make_next(&mut self, command: &Command) -> Result<(), NoMemory>
+        requires { CanApply self.old.core command.now }
+        ensures core { self.new.core ≡ self.old.core }
+        ensures made { IfOk result (λ _. IsMade self.old.core self.new.made (HostInput.Apply command.now)) }
+        ensures room { self.new.room ≡ self.old.room }
+        ensures pull_room { self.new.pull_room ≡ self.old.pull_room }
+        ensures runs { (t : TableId) → S.runs self.new.store t ≡ S.runs self.old.store t }
     {
-        match input {
-            HostInput::Apply(command) => {
-                let next = making::next_state(
-                    self.alloc,
-                    &self.state,
-                    self.applied,
-                    command.get(),
-                )?;
-                Ok(Some(next))
-            }
-            _ => Ok(None),
-        }
+        let next = making::next_state(self.alloc, &self.state, self.applied, command)?;
+        self.made = Some(Made::State(next));
+        Ok(())
     }
 
-    /// The pull that begins, where one does.
-    fn make_pull(&self, input: &HostInput) -> Option<Pull>
-        ensures { result ≡ next_pull self.now.core input.now }
+    /// Makes the chunk that is asked for.
+    fn make_chunk(&mut self, ask: &ChunkAsk) -> Result<(), NoMemory>
+        ensures core { self.new.core ≡ self.old.core }
+        ensures made { IfOk result (λ _. IsMade self.old.core self.new.made (HostInput.SendChunk ask.now)) }
+        ensures room { self.new.room ≡ self.old.room }
+        ensures pull_room { self.new.pull_room ≡ self.old.pull_room }
+        ensures runs { (t : TableId) → S.runs self.new.store t ≡ S.runs self.old.store t }
     {
-        match input {
-            HostInput::Pull(session) => {
-                making::begun_pull(&self.state, self.host, &self.pulls, *session)
-            }
-            _ => None,
-        }
+        let chunk = making::chunk_for(self.alloc, &self.store, ask)?;
+        self.made = Some(Made::Sent(chunk));
+        Ok(())
     }
 
     /// Makes what the input takes memory for.
-    fn make(&self, input: &HostInput) -> Result<Made, NoMemory>
-        requires { CanTake self.now.core input.now }
-        ensures { IfOk result (λ made. made ≡ made_of self.now.core input.now) }
+    fn make(&mut self, input: &HostInput) -> Result<(), NoMemory>
+        requires { CanTake self.old.core input.now }
+        ensures core { self.new.core ≡ self.old.core }
+        ensures made { IfOk result (λ _. IsMade self.old.core self.new.made input.now) }
+        ensures runs { (t : TableId) → S.runs self.new.store t ≡ S.runs self.old.store t }
     {
-        let out = making::out_of(
-            self.alloc,
-            self.host,
-            &self.state,
-            &self.store,
-            &self.pulls,
-            input,
-        )?;
-        let next = self.make_next(input)?;
-        let begun = self.make_pull(input);
-        Ok(Made { out, next, begun })
+        match input {
+            HostInput::Apply(command) => self.make_next(command.get()),
+            HostInput::SendChunk(ask) => self.make_chunk(ask),
+            _ => Ok(()),
+        }
     }
 
     /// Lays the cells of a table into runs, where the input asks for it.
-    fn regroup(&mut self, next: &Option<TopoState>, input: &HostInput) -> Result<(), NoMemory>
-        requires { next.now ≡ next_state self.old.core input.now }
+    fn regroup(&mut self, input: &HostInput) -> Result<(), NoMemory>
+        requires { IsMade self.old.core self.old.made input.now }
         ensures core { self.new.core ≡ self.old.core }
+        ensures made { self.new.made ≡ self.old.made }
         ensures ok { OnOk result ((t : TableId) → S.runs self.new.store t ≡
             runs_with (grouping_of self.old.core input.now) (S.runs self.old.store) t) }
         ensures err { OnErr result (AreLeft (grouping_of self.old.core input.now) (S.runs self.old.store)
@@ -252,7 +267,7 @@ impl<S: Store> HostCore<S> {
         ensures pull_room { self.new.pull_room ≡ self.old.pull_room }
         ensures room { needed_cells input.now ≤ self.old.room → needed_cells input.now ≤ self.new.room }
     {
-        let grouping = grouping::grouping_of(&self.state, next, input);
+        let grouping = grouping::grouping_of(&self.state, &self.made, input);
         grouping::regroup(&mut self.store, grouping)
     }
 
@@ -268,10 +283,9 @@ impl<S: Store> HostCore<S> {
         ensures err { OnErr result (AreLeft (grouping_of self.old.core input) (S.runs self.old.store)
             (S.runs self.new.store)) }
     {
-        let made = self.make(&input)?;
+        self.make(&input)?;
         self.make_room(&input)?;
-        self.regroup(&made.next, &input)?;
-        self.made = Some(made);
+        self.regroup(&input)?;
         Ok(Prepared { input })
     }
 
@@ -283,27 +297,40 @@ impl<S: Store> HostCore<S> {
         ensures runs { (t : TableId) → S.runs self.new.store t ≡ S.runs self.old.store t }
     {
         let Prepared { input } = prepared;
-        let Some(Made { out, next, begun }) = self.made.take() else {
-            unreachable!()
-        };
         match &input {
             HostInput::Apply(_) => {
-                match next {
-                    Some(next) => self.state = next,
-                    None => unreachable!(),
-                }
+                let Some(Made::State(next)) = self.made.take() else {
+                    unreachable!()
+                };
+                self.state = next;
                 self.applied += 1;
+                HostOut::Nothing
             }
             HostInput::Quiet(version) => {
                 self.floor = effects::greater_version(self.floor, *version);
+                HostOut::Nothing
             }
             HostInput::Write(ask) => {
-                let _answer = serve_write(&mut self.store, self.state.fence(), ask);
+                let answer = serve_write(&mut self.store, self.state.fence(), ask);
+                HostOut::Answer(answer)
+            }
+            HostInput::Read(ask) => {
+                HostOut::Answer(serve_read(&self.store, self.state.fence(), ask))
+            }
+            HostInput::SendChunk(_) => {
+                let Some(Made::Sent(chunk)) = self.made.take() else {
+                    unreachable!()
+                };
+                HostOut::Chunk(chunk)
             }
             HostInput::TakeChunk(chunk) => {
+                let out = making::chunk_out(&self.pulls, chunk.get());
                 effects::take_chunk(&mut self.store, &mut self.pulls, chunk.get());
+                out
             }
+            HostInput::Answer(ask) => HostOut::Fact(making::fact_for(ask)),
             HostInput::Clean(ask) => {
+                let out = making::clean_out(&self.state, self.host, ask);
                 effects::clean(
                     &mut self.store,
                     &mut self.pulls,
@@ -311,11 +338,15 @@ impl<S: Store> HostCore<S> {
                     &self.state,
                     ask.what,
                 );
+                out
             }
-            HostInput::Pull(session) => effects::begin_pull(&mut self.pulls, *session, begun),
-            HostInput::Read(_) | HostInput::SendChunk(_) | HostInput::Answer(_) => {}
+            HostInput::Pull(session) => {
+                let out = making::pull_out(&self.state, self.host, &self.pulls, *session);
+                let begun = making::begun_pull(&self.state, self.host, &self.pulls, *session);
+                effects::begin_pull(&mut self.pulls, *session, begun);
+                out
+            }
         }
-        out
     }
 
     /// Loses the pulls and what was prepared, and keeps all else.

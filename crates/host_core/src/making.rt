@@ -1,17 +1,17 @@
 //! What is made of an input before it is settled. Nothing of the host changes.
 ghost use Rattle.std.specs.Prelude.{◌≡◌, ◌+◌, ◌-◌, ◌^◌, ◌<◌, IfOk};
 ghost use Rattle.std.specs.Option.{option_or};
-ghost use Rattle.host_core.specs.Host.{told_fact, chunk_out, clean_out, begun_pull, pull_out, out_of};
+ghost use Rattle.host_core.specs.Host.{told_fact, chunk_out, clean_out, begun_pull, pull_out};
 ghost use Rattle.stream_core.specs.Pulls.{served_chunk, next_ask};
 ghost use Rattle.host_core.specs.Pulls.{pull_in, pull_of_move, pull_of_state};
 ghost use Rattle.topo_state.specs.After.{after};
 ghost use Rattle.topo_state.specs.Rules.{rule, IsFit};
 
-use crate::data::{HostInput, HostOut};
+use crate::data::HostOut;
 use crate::pulls::PullTable;
 use barrier_core::{Ask, Fact, What};
 use base_ids::{HostId, NoMemory, Session};
-use replica_core::{Cleanup, cleanup_of, serve_read, write_answer};
+use replica_core::{Cleanup, cleanup_of};
 use replica_store::Store;
 use shared_value::Shared;
 use std::alloc::Global;
@@ -76,7 +76,7 @@ pub fn begun_pull(
 }
 
 /// What comes of a pull event.
-fn pull_out(state: &TopoState, host: HostId, pulls: &PullTable, session: Session) -> HostOut
+pub fn pull_out(state: &TopoState, host: HostId, pulls: &PullTable, session: Session) -> HostOut
     ensures { result ≡ pull_out (option_or (pull_in pulls.now.list session) (pull_of_state state.now host session)) }
 {
     match pulls.get(session) {
@@ -89,16 +89,20 @@ fn pull_out(state: &TopoState, host: HostId, pulls: &PullTable, session: Session
 }
 
 /// The chunk that is asked for, shared.
-fn chunk_for<S: Store>(alloc: Global, store: &S, ask: &ChunkAsk) -> Result<HostOut, NoMemory>
-    ensures { IfOk result (λ out. out ≡ HostOut.Chunk (served_chunk (S.cells store.now) ask.now)) }
+pub fn chunk_for<S: Store>(
+    alloc: Global,
+    store: &S,
+    ask: &ChunkAsk,
+) -> Result<Shared<ChunkMsg>, NoMemory>
+    ensures { IfOk result (λ chunk. chunk ≡ served_chunk (S.cells store.now) ask.now) }
 {
     let chunk = serve_chunk(alloc, store, ask)?;
     let shared = Shared::new(alloc, chunk)?;
-    Ok(HostOut::Chunk(shared))
+    Ok(shared)
 }
 
 /// What comes of a chunk.
-fn chunk_out(pulls: &PullTable, chunk: &ChunkMsg) -> HostOut
+pub fn chunk_out(pulls: &PullTable, chunk: &ChunkMsg) -> HostOut
     ensures { result ≡ chunk_out chunk.now (pull_in pulls.now.list chunk.now.session) }
 {
     match pulls.get(chunk.session) {
@@ -112,7 +116,7 @@ fn chunk_out(pulls: &PullTable, chunk: &ChunkMsg) -> HostOut
 }
 
 /// The fact that was asked for.
-fn fact_for(ask: &Ask) -> Fact
+pub fn fact_for(ask: &Ask) -> Fact
     ensures { result ≡ told_fact ask.now }
 {
     Fact {
@@ -123,7 +127,7 @@ fn fact_for(ask: &Ask) -> Fact
 }
 
 /// What comes of a cleanup.
-fn clean_out(state: &TopoState, host: HostId, ask: &Ask) -> HostOut
+pub fn clean_out(state: &TopoState, host: HostId, ask: &Ask) -> HostOut
     ensures { result ≡ clean_out state.now host ask.now ask.now.what }
 {
     match ask.what {
@@ -135,28 +139,5 @@ fn clean_out(state: &TopoState, host: HostId, ask: &Ask) -> HostOut
             },
         },
         _ => HostOut::Nothing,
-    }
-}
-
-/// What comes of an input.
-pub fn out_of<S: Store>(
-    alloc: Global,
-    host: HostId,
-    state: &TopoState,
-    store: &S,
-    pulls: &PullTable,
-    input: &HostInput,
-) -> Result<HostOut, NoMemory>
-    ensures { IfOk result (λ out. out ≡ out_of host state.now (S.cells store.now) pulls.now.list input.now) }
-{
-    match input {
-        HostInput::Write(ask) => Ok(HostOut::Answer(write_answer(state.fence(), ask))),
-        HostInput::Read(ask) => Ok(HostOut::Answer(serve_read(store, state.fence(), ask))),
-        HostInput::SendChunk(ask) => chunk_for(alloc, store, ask),
-        HostInput::TakeChunk(chunk) => Ok(chunk_out(pulls, chunk.get())),
-        HostInput::Answer(ask) => Ok(HostOut::Fact(fact_for(ask))),
-        HostInput::Clean(ask) => Ok(clean_out(state, host, ask)),
-        HostInput::Pull(session) => Ok(pull_out(state, host, pulls, *session)),
-        HostInput::Apply(_) | HostInput::Quiet(_) => Ok(HostOut::Nothing),
     }
 }

@@ -61,7 +61,7 @@ use Rattle.cluster_history.specs.declared.data.Output.{Output}
 use Rattle.cluster_history.specs.declared.data.Output.TheVariants.{Pulled, Sent}
 use Rattle.history_facts.proofs.HostLemmas.{log_legal}
 use Rattle.history_facts.proofs.LegalLemmas.{rule_takes, taken_by}
-use Rattle.history_facts.proofs.NameLemmas.{same_host-refl, same_host-same}
+use Rattle.base_ids.proofs.NameLemmas.{same_host-refl, same_host-same}
 use Rattle.host_ties.proofs.HostRules.{host_rules}
 use Rattle.host_ties.proofs.LogLemmas.{below_end, next_there}
 use Rattle.host_ties.proofs.PullLemmas.{pulls_agree, same_first}

@@ -22,7 +22,7 @@ use Rattle.cluster_history.specs.declared.data.Event.{Event}
 use Rattle.cluster_history.specs.declared.data.Event.TheVariants.{Clean, Pull, Restart, TakeChunk}
 use Rattle.cluster_history.specs.declared.data.Opening.{Opening}
 use Rattle.cluster_history.specs.declared.data.Output.{Output}
-use Rattle.history_facts.proofs.NameLemmas.{same_session-refl, same_session-same}
+use Rattle.base_ids.proofs.NameLemmas.{same_session-refl, same_session-same}
 use Rattle.host_ties.specs.HostRules.{HostPulls}
 use Rattle.host_ties.specs.HostTies.{pulls_after, pulls_begun, pulls_cleaned, pulls_of, pulls_taken}
 use Rattle.cluster_history.proofs.FrameLemmas.{one_way}

@@ -39,22 +39,26 @@ lane_made lane input = record { out = lane_out lane input; work = lane_work lane
 
 -- a request that begins has room
 abbrev pub HasRoom : LaneView → Option OpId → LaneInput → Type 0
-HasRoom lane room (Write table token cell snapshot) = room ≡ Some (next_request lane)
-HasRoom lane room (Read table token snapshot) = room ≡ Some (next_request lane)
+HasRoom lane room (Write table token cell level snapshot) = room ≡ Some (next_request lane)
+HasRoom lane room (Read table token level snapshot) = room ≡ Some (next_request lane)
 HasRoom lane room (Take answer) = Unit {0}
 HasRoom lane room (Timeout op) = Unit {0}
 
--- the number of the request that an input is about
-abbrev pub op_of : LaneView → LaneInput → OpId
-op_of lane (Write table token cell snapshot) = next_request lane
-op_of lane (Read table token snapshot) = next_request lane
-op_of lane (Take answer) = answer.op
-op_of lane (Timeout op) = op
+-- the work of a request that begins waits
+abbrev pub IsBegun : LaneView → Option Made → LaneInput → Type 0
+IsBegun lane made input =
+    (made ≡ Some (lane_made lane input)) × IfSome (lane_work lane input) (IsWaiting lane.lane (next_request lane))
+
+-- what a begin takes memory for is made; else nothing takes any
+abbrev pub IsMade : LaneView → Option Made → LaneInput → Type 0
+IsMade lane made (Write table token cell level snapshot) = IsBegun lane made (Write table token cell level snapshot)
+IsMade lane made (Read table token level snapshot) = IsBegun lane made (Read table token level snapshot)
+IsMade lane made (Take answer) = Unit {0}
+IsMade lane made (Timeout op) = Unit {0}
 
 -- the input breaks no rule, and all that it needs is there
 pub record HasMade (lane : LaneHolding) (input : LaneInput) : Type 0 where
   pub rule : lane_rule lane.core input ≡ None
   pub for_it : IsFor lane.core input
-  pub made : lane.made ≡ Some (lane_made lane.core input)
+  pub made : IsMade lane.core lane.made input
   pub room : HasRoom lane.core lane.room input
-  pub waits : IfSome (lane_work lane.core input) (IsWaiting lane.core.lane (op_of lane.core input))

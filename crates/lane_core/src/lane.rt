@@ -1,12 +1,13 @@
 ghost use Rattle.std.specs.Prelude.{◌≡◌, ◌+◌, ◌<◌, ◌^◌, length, None, Some, IfOk, IfSome, MatchResult};
 ghost use Rattle.request_table.specs.Requests.{is_live_below};
-ghost use Rattle.lane_core.specs.Lane.{lane_first, lane_restarted, next_request, room_rule, lane_rule, lane_after, lane_out, with_next, live_with, IsFor};
+ghost use Rattle.lane_core.specs.Lane.{lane_first, lane_restarted, next_request, room_rule, lane_rule, lane_after, lane_out, with_next, IsFor};
 
 use crate::data::{LaneInput, LaneOut};
-use crate::making::{made_given_up, made_read, made_taking, made_write};
+use crate::making::{made_read, made_write, reply_given_up};
 use crate::work::Work;
 use base_ids::{EventRule, LaneId, NoMemory, OpId, Version};
 use meta_snap::Snapshot;
+use quorum_ops::{Answer, Taking};
 use request_table::RequestTable;
 use shared_value::Shared;
 use std::alloc::Global;
@@ -60,7 +61,8 @@ impl Model for LaneCore {
 }
 
 impl LaneCore {
-    ghost use Rattle.lane_core.specs.Kept.{lane_made, HasMade, HasRoom, IsWaiting, op_of};
+    ghost use Rattle.lane_core.specs.Kept.{HasMade, HasRoom, IsMade, IsWaiting};
+    ghost use Rattle.lane_core.specs.declared.data.LaneInput.{LaneInput};
 
     /// A lane that has begun nothing.
     pub fn new(alloc: Global, lane: LaneId) -> LaneCore
@@ -130,42 +132,52 @@ impl LaneCore {
         Ok(())
     }
 
-    /// What is made ahead for an input.
-    fn make(&self, input: &LaneInput) -> Result<Made, NoMemory>
-        requires { IsFor self.now.core input.now }
-        ensures made { IfOk result (λ made. made ≡ lane_made self.now.core input.now) }
-        ensures waits { IfOk result (λ made.
-            IfSome made.work (IsWaiting self.now.core.lane (op_of self.now.core input.now))) }
+    /// What is made ahead for an input: for a begin alone.
+    fn make(&mut self, input: &LaneInput) -> Result<(), NoMemory>
+        requires { IsFor self.old.core input.now }
+        ensures core { self.new.core ≡ self.old.core }
+        ensures made { IfOk result (λ _. IsMade self.old.core self.new.made input.now) }
     {
         match input {
             LaneInput::Write {
                 table,
                 token,
                 cell,
+                level,
                 snapshot,
             } => {
                 let op = OpId(self.begun + 1);
-                made_write(
+                self.made = Some(made_write(
                     self.alloc,
                     self.lane,
                     op,
                     *table,
                     *token,
                     cell,
+                    *level,
                     snapshot.get(),
-                )
+                )?);
             }
             LaneInput::Read {
                 table,
                 token,
+                level,
                 snapshot,
             } => {
                 let op = OpId(self.begun + 1);
-                made_read(self.alloc, self.lane, op, *table, *token, snapshot.get())
+                self.made = Some(made_read(
+                    self.alloc,
+                    self.lane,
+                    op,
+                    *table,
+                    *token,
+                    *level,
+                    snapshot.get(),
+                )?);
             }
-            LaneInput::Take(answer) => Ok(made_taking(answer, self.requests.get(answer.op))),
-            LaneInput::Timeout(op) => Ok(made_given_up(*op, self.requests.get(*op))),
+            LaneInput::Take(_) | LaneInput::Timeout(_) => {}
         }
+        Ok(())
     }
 
     /// Makes room for the next request, where the input begins one.
@@ -193,9 +205,8 @@ impl LaneCore {
         ensures input { IfOk result (λ prepared. prepared ≡ input) }
         ensures ready { IfOk result (λ prepared. HasMade self.new prepared) }
     {
-        let made = self.make(&input)?;
+        self.make(&input)?;
         self.make_room(&input)?;
-        self.made = Some(made);
         Ok(Prepared { input })
     }
 
@@ -206,16 +217,54 @@ impl LaneCore {
         ensures out { result ≡ lane_out self.old.core prepared }
     {
         let Prepared { input } = prepared;
-        let Some(Made { out, work }) = self.made.take() else {
+        match input {
+            LaneInput::Write { snapshot, .. } | LaneInput::Read { snapshot, .. } => {
+                let Some(Made { out, work }) = self.made.take() else {
+                    unreachable!()
+                };
+                self.begin(snapshot, work);
+                out
+            }
+            LaneInput::Take(answer) => self.take(&answer),
+            LaneInput::Timeout(op) => self.give_up(op),
+        }
+    }
+
+    /// Takes an answer to this lane.
+    fn take(&mut self, answer: &Answer) -> LaneOut
+        requires { answer.now.lane ≡ self.old.core.lane }
+        ensures core { self.new.core ≡ lane_after self.old.core (LaneInput.Take answer.now) }
+        ensures out { result ≡ lane_out self.old.core (LaneInput.Take answer.now) }
+    {
+        let Some(live) = self.requests.get(answer.op) else {
+            return LaneOut::Nothing;
+        };
+        let version = live.version;
+        let kind = live.work.kind();
+        let Some(work) = self.requests.get_mut(answer.op) else {
             unreachable!()
         };
-        match input {
-            LaneInput::Write { snapshot, .. } | LaneInput::Read { snapshot, .. } => self.begin(
-                snapshot, work,
-            ),
-            LaneInput::Take(answer) => self.go_on(answer.op, work),
-            LaneInput::Timeout(op) => self.go_on(op, None),
+        match work.take(answer) {
+            Taking::Waiting => LaneOut::Nothing,
+            Taking::Decided(reply) => {
+                self.requests.remove(answer.op);
+                LaneOut::Reply {
+                    op: answer.op,
+                    version,
+                    kind,
+                    reply,
+                }
+            }
         }
+    }
+
+    /// Gives up a request.
+    fn give_up(&mut self, op: OpId) -> LaneOut
+        ensures core { self.new.core ≡ lane_after self.old.core (LaneInput.Timeout op) }
+        ensures out { result ≡ lane_out self.old.core (LaneInput.Timeout op) }
+    {
+        let out = reply_given_up(op, self.requests.get(op));
+        self.requests.remove(op);
         out
     }
 
@@ -243,23 +292,6 @@ impl LaneCore {
         let version = snapshot.version();
         self.requests.insert(op, version, snapshot, work);
         self.begun = op.0;
-    }
-
-    /// A request goes on with this work, or lives no longer.
-    fn go_on(&mut self, op: OpId, work: Option<Work>)
-        requires { IfSome work (IsWaiting self.old.core.lane op) }
-        ensures { self.new.core ≡ record self.old.core { live = live_with self.old.core.live op work } }
-    {
-        match work {
-            Some(work) => {
-                if let Some(lent) = self.requests.get_mut(op) {
-                    *lent = work;
-                }
-            }
-            None => {
-                self.requests.remove(op);
-            }
-        }
     }
 
     /// Loses all live requests, and what was prepared. The count of begins stays. Takes no memory.

@@ -25,7 +25,7 @@ use Rattle.cluster_history.specs.declared.data.Operation.{Operation}
 use Rattle.cluster_history.specs.declared.data.Operation.TheVariants.{Read as ReadOf, Write as WriteOf}
 use Rattle.history_facts.proofs.BegunLemmas.{answers_of-above, request-next}
 use Rattle.history_facts.proofs.LiveLemmas.{live_ops-begin}
-use Rattle.history_facts.proofs.NameLemmas.{same_lane-refl}
+use Rattle.base_ids.proofs.NameLemmas.{same_lane-refl}
 use Rattle.lane_core.specs.Lane.{IsFor, LaneView, lane_after, lane_rule, most_requests, with_next}
 use Rattle.lane_core.specs.declared.work.Work.{Work}
 use Rattle.lane_ties.proofs.HistoryLemmas.{answers_kept, kept_stays, member_begun, state_has_version}
@@ -170,12 +170,12 @@ begin_after opening history lane operation version state found =
 -- ---- the lane plays a begin
 
 begin_rule_none : (lane : LaneView) (operation : Operation) (state : Topology) → nat_le most_requests (length lane.live) ≡ false → lane_rule lane (begin_input operation state) ≡ None
-begin_rule_none lane (WriteOf table token cell) state room = ap (λ b. if b then Some LaneFull else None) room
-begin_rule_none lane (ReadOf table token) state room = ap (λ b. if b then Some LaneFull else None) room
+begin_rule_none lane (WriteOf table token cell level) state room = ap (λ b. if b then Some LaneFull else None) room
+begin_rule_none lane (ReadOf table token level) state room = ap (λ b. if b then Some LaneFull else None) room
 
 begin_fits : (lane : LaneView) (operation : Operation) (state : Topology) → lane.begun + 1 < 2 ^ 64 → IsFor lane (begin_input operation state)
-begin_fits lane (WriteOf table token cell) state countable = countable
-begin_fits lane (ReadOf table token) state countable = countable
+begin_fits lane (WriteOf table token cell level) state countable = countable
+begin_fits lane (ReadOf table token level) state countable = countable
 
 countable : (begun entries : ℕ) → begun ≤ entries → entries + 1 < 2 ^ 64 → begun + 1 < 2 ^ 64
 countable begun entries within few = omega (arith, within, few)

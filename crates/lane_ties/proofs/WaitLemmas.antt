@@ -12,7 +12,7 @@ use Rattle.base_ids.specs.declared.ids.OpId.{OpId}
 use Rattle.base_ids.specs.declared.ids.Replica.{Replica}
 use Rattle.cluster_history.specs.History.{History, message_at}
 use Rattle.cluster_history.specs.Legal.{IsLegalHistory, outputs_of}
-use Rattle.cluster_history.specs.Messages.{key_of, kind_of}
+use Rattle.cluster_history.specs.Messages.{key_of, kind_of, level_of}
 use Rattle.cluster_history.specs.Openings.{IsValidOpening, opening_state}
 use Rattle.cluster_history.specs.Outputs.{decided_by, reply_list, take_outputs}
 use Rattle.cluster_history.specs.Requests.{Request, answer_to, answers_of, begins_request, begun_count, is_begin_of, is_event_of, is_live, is_reply_to, live_ops, live_request, replies_to, request_at, started_request, taken_answer, targets_of, with_answer}
@@ -25,7 +25,7 @@ use Rattle.cluster_history.specs.declared.data.Message.TheVariants.{Answer as An
 use Rattle.cluster_history.specs.declared.data.Opening.{Opening}
 use Rattle.history_facts.proofs.BegunLemmas.{answers_of-above, live_before, request_begun}
 use Rattle.history_facts.proofs.HostLemmas.{log_legal}
-use Rattle.history_facts.proofs.NameLemmas.{both_true, same_lane-refl, same_lane-same, same_op-refl, same_op-same}
+use Rattle.base_ids.proofs.NameLemmas.{both_true, same_lane-refl, same_lane-same, same_op-refl, same_op-same}
 use Rattle.history_facts.proofs.RouteLemmas.{routed}
 use Rattle.history_facts.specs.Laws.{IsRouted}
 use Rattle.lane_core.specs.Kept.{IsKept, IsWaiting}
@@ -43,7 +43,9 @@ use Rattle.quorum_ops.specs.Taken.{pending_by}
 use Rattle.quorum_ops.specs.declared.data.Answer.{Answer}
 use Rattle.quorum_ops.specs.declared.data.Reply.{Reply}
 use Rattle.request_table.specs.declared.Live.{Live}
-use Rattle.stage_graph.specs.Table.{needed}
+use Rattle.stage_graph.proofs.Needs.{asks_no_more, asks_one}
+use Rattle.stage_graph.specs.Needs.{needed}
+use Rattle.stage_graph.specs.declared.level.Level.{Level}
 use Rattle.stage_graph.specs.declared.kind.Kind.{Kind}
 use Rattle.stage_graph.specs.declared.kind.Kind.TheVariants.{Read as ReadKind, Write as WriteKind}
 use Rattle.tablet_map.specs.declared.tablet.Tablet.{Tablet}
@@ -56,15 +58,17 @@ pub record IsReachable (targets : List Replica) (need : ℕ) : Type 0 where
   pub some : 1 ≤ need
   pub within : need ≤ length targets
 
-view_reachable : (kind : Kind) (members : List HostId) (tablet : Tablet) → IsSoundView members tablet → IsReachable (targets_of kind tablet) (needed kind (length tablet.replicas) (stage_in tablet))
-view_reachable ReadKind members tablet sound =
-    let some = sound.sound.replicas.some in
+view_reachable : (kind : Kind) (level : Level) (members : List HostId) (tablet : Tablet) → IsSoundView members tablet → IsReachable (targets_of kind tablet) (needed kind level (length tablet.replicas) (stage_in tablet))
+view_reachable ReadKind level members tablet sound =
+    let one = asks_one level (length tablet.replicas) sound.sound.replicas.some in
+    let most = asks_no_more level (length tablet.replicas) sound.sound.replicas.some in
     let size = sound.reads_size in
-    record { some = omega arith; within = omega (arith, some, size) }
-view_reachable WriteKind members tablet sound =
-    let some = sound.sound.replicas.some in
+    record { some = omega (arith, one); within = omega (arith, most, size) }
+view_reachable WriteKind level members tablet sound =
+    let one = asks_one level (length tablet.replicas) sound.sound.replicas.some in
+    let most = asks_no_more level (length tablet.replicas) sound.sound.replicas.some in
     let size = sound.writes_size in
-    record { some = omega arith; within = omega (arith, some, size) }
+    record { some = omega (arith, one); within = omega (arith, most, size) }
 
 pub request_reachable :
     (opening : Opening) (history : History) (lane : LaneId) (op : OpId) (request : Request) → IsValidOpening opening → IsLegalHistory opening history →
@@ -74,7 +78,7 @@ request_reachable opening history lane op request valid legal there =
     let states = sound_states_law (opening_state opening) valid.topology (log_of history) (log_legal opening history legal) in
     let sound : IsSoundView route.state.members route.tablet =
     states.first_views request.version.0 route.state route.found (key_of request.operation).table (key_of request.operation).token route.tablet route.there in
-    let can = view_reachable (kind_of request.operation) route.state.members route.tablet sound in
+    let can = view_reachable (kind_of request.operation) (level_of request.operation) route.state.members route.tablet sound in
     subst (λ (targets : List Replica). IsReachable targets request.need) (sym route.targets)
     (subst (IsReachable (targets_of (kind_of request.operation) route.tablet)) (sym route.need) can)
 

@@ -1,19 +1,14 @@
 -- The greatest cell that was told is not below a cell that enough targets tell.
 use Rattle.std.proofs.Common.{arith, refl}
 use Rattle.std.specs.List.{count_by}
-use Rattle.std.specs.Prelude.{Bool, List, Option, [], false, length, true, ℕ, ◌+◌, ◌<◌, ◌∷◌, ◌≡◌, ◌≤◌}
+use Rattle.std.specs.Prelude.{Bool, List, Option, [], false, length, true, ◌+◌, ◌<◌, ◌∷◌, ◌≡◌, ◌≤◌}
 use Rattle.base_ids.specs.declared.ids.Replica.{Replica}
 use Rattle.cell_merge.proofs.CellOrder.{greater-first, greater-second, not_below}
 use Rattle.cell_merge.specs.Cell.{IsNotBelow}
 use Rattle.cell_merge.specs.declared.cell.Cell.{Cell}
 use Rattle.quorum_ops.specs.Decision.{first_said, greatest_told, has_answered, said_cell}
 use Rattle.quorum_ops.specs.declared.data.Answer.{Answer}
-use Rattle.stage_graph.specs.Table.{base_need}
 use Rattle.answer_law.proofs.CountLemmas.{count_first, one_if}
-
--- two majorities are more than all
-pub two_majorities : (n : ℕ) → n < base_need n + base_need n
-two_majorities n = omega arith
 
 -- Where the targets that answered and those that are good are together more than all, one is both, and the greatest told
 -- cell is not below what that one told.

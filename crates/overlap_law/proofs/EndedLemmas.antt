@@ -18,7 +18,7 @@ use Rattle.cluster_history.specs.declared.data.Opening.{Opening}
 use Rattle.cluster_history.specs.declared.data.Output.TheVariants.{Reply as Replied}
 use Rattle.history_facts.proofs.BegunLemmas.{live_before, live_begun}
 use Rattle.history_facts.proofs.LegalLemmas.{legal_induction}
-use Rattle.history_facts.proofs.NameLemmas.{and_false, and_true, or_first, same_lane-refl, same_op-refl}
+use Rattle.base_ids.proofs.NameLemmas.{and_false, and_true, or_first, same_lane-refl, same_op-refl}
 use Rattle.quorum_ops.specs.declared.data.Reply.{Reply}
 use Rattle.register_model.specs.Register.{EndsAt, Stands, begun_by, ended_by}
 use Rattle.register_model.specs.declared.data.ClientEvent.{ClientEvent}
@@ -39,15 +39,15 @@ begun-now history entry lane e = ap (λ b. if b then begun_count history lane + 
 begun_name : (history : History) (event : Event) (offset : ℕ) (seen : ClientEvent) (request : Named) → IsBegun history event offset seen → begun_by seen ≡ Some request → (lane : LaneId) × (is_begin_of lane event ≡ true) × (request ≡ named_request lane (next_op history lane))
 begun_name history event offset seen request began e =
     let P : Event → Type 0 = λ v. is_begin_of began.lane v ≡ true in
-    let there : Some request ≡ Some (named_request began.lane (next_op history began.lane)) = sym e ∙ ap begun_by began.is ∙ begin_begins (named_request began.lane (next_op history began.lane)) began.operation in
+    let there : Some request ≡ Some (named_request began.lane (next_op history began.lane)) = sym e ∙ ap begun_by began.is ∙ begin_begins (named_request began.lane (next_op history began.lane)) began.operation began.asked in
     (began.lane, subst P (sym began.event_is) (same_lane-refl began.lane), some_same request (named_request began.lane (next_op history began.lane)) there)
 
-pub seen_begun : (opening : Opening) (history : History) → IsLegalHistory opening history → (place : ℕ) (seen : ClientEvent) (request : Named) → Stands (seen_in history) place seen → begun_by seen ≡ Some request → request.op.0 ≤ begun_count history request.lane
+pub seen_begun : (opening : Opening) (history : History) → IsLegalHistory opening history → (place : ℕ) (seen : ClientEvent) (request : Named) → Stands (seen_in opening history) place seen → begun_by seen ≡ Some request → request.op.0 ≤ begun_count history request.lane
 seen_begun opening =
-    legal_induction opening (λ history. (place : ℕ) (seen : ClientEvent) (request : Named) → Stands (seen_in history) place seen → begun_by seen ≡ Some request → request.op.0 ≤ begun_count history request.lane)
+    legal_induction opening (λ history. (place : ℕ) (seen : ClientEvent) (request : Named) → Stands (seen_in opening history) place seen → begun_by seen ≡ Some request → request.op.0 ≤ begun_count history request.lane)
     (λ place seen request e b. cc)
     (λ history event legal actor fit fine before place seen request e b.
-    elim (stands_split (seen_in history) (seen_of history event (outputs_of opening history event)) place seen e) [
+    elim (stands_split (seen_in opening history) (seen_of opening history event (outputs_of opening history event)) place seen e) [
       | inl old ↦ omega (arith, before place seen request old b, begun-rises history (entry_of opening history event) request.lane)
       | inr behind ↦
           elim (seen_cases opening history event behind.offset seen behind.stands) [
@@ -72,16 +72,16 @@ ended_name : (lane : LaneId) (op : OpId) (reply : Reply) (seen : ClientEvent) (r
 ended_name lane op reply seen request is e =
     some_same request (named_request lane op) (sym e ∙ ap ended_by is ∙ reply_ends (named_request lane op) reply)
 
-pub seen_ended : (opening : Opening) (history : History) → IsLegalHistory opening history → (place : ℕ) (request : Named) → EndsAt (seen_in history) place request → request.op.0 ≤ begun_count history request.lane
+pub seen_ended : (opening : Opening) (history : History) → IsLegalHistory opening history → (place : ℕ) (request : Named) → EndsAt (seen_in opening history) place request → request.op.0 ≤ begun_count history request.lane
 seen_ended opening =
-    legal_induction opening (λ history. (place : ℕ) (request : Named) → EndsAt (seen_in history) place request → request.op.0 ≤ begun_count history request.lane)
+    legal_induction opening (λ history. (place : ℕ) (request : Named) → EndsAt (seen_in opening history) place request → request.op.0 ≤ begun_count history request.lane)
     (λ place request ends. let wrong : None ≡ Some ends.event = ends.stands in cc)
     (λ history event legal actor fit fine before place request ends.
-    elim (stands_split (seen_in history) (seen_of history event (outputs_of opening history event)) place ends.event ends.stands) [
+    elim (stands_split (seen_in opening history) (seen_of opening history event (outputs_of opening history event)) place ends.event ends.stands) [
       | inl old ↦ omega (arith, before place request (record { event = ends.event; stands = old; ends = ends.ends }), begun-rises history (entry_of opening history event) request.lane)
       | inr behind ↦
           elim (seen_cases opening history event behind.offset ends.event behind.stands) [
-            | inl began ↦ let wrong : Some request ≡ None = sym ends.ends ∙ ap ended_by began.is ∙ begin_ends (named_request began.lane (next_op history began.lane)) began.operation in cc
+            | inl began ↦ let wrong : Some request ≡ None = sym ends.ends ∙ ap ended_by began.is ∙ begin_ends (named_request began.lane (next_op history began.lane)) began.operation began.asked in cc
             | inr told ↦
                 let P : Named → Type 0 = λ n. n.op.0 ≤ begun_count (entry_of opening history event ∷ history) n.lane in
                 subst P (sym (ended_name told.lane told.op told.reply ends.event request told.is ends.ends))
@@ -102,18 +102,18 @@ not_live opening history event lane op e =
     and_false (begins_request history event lane op || is_live history lane op) (not (replies_to (entry_of opening history event) lane op || is_restart_of (ByLane lane) event))
     (ap not (or_first (replies_to (entry_of opening history event) lane op) (is_restart_of (ByLane lane) event) e))
 
-pub live_unended : (opening : Opening) (history : History) → IsLegalHistory opening history → (place : ℕ) (lane : LaneId) (op : OpId) → is_live history lane op ≡ true → EndsAt (seen_in history) place (named_request lane op) → ⊥
+pub live_unended : (opening : Opening) (history : History) → IsLegalHistory opening history → (place : ℕ) (lane : LaneId) (op : OpId) → is_live history lane op ≡ true → EndsAt (seen_in opening history) place (named_request lane op) → ⊥
 live_unended opening =
-    legal_induction opening (λ history. (place : ℕ) (lane : LaneId) (op : OpId) → is_live history lane op ≡ true → EndsAt (seen_in history) place (named_request lane op) → ⊥)
+    legal_induction opening (λ history. (place : ℕ) (lane : LaneId) (op : OpId) → is_live history lane op ≡ true → EndsAt (seen_in opening history) place (named_request lane op) → ⊥)
     (λ place lane op live ends. cc)
     (λ history event legal actor fit fine before place lane op live ends.
-    elim (stands_split (seen_in history) (seen_of history event (outputs_of opening history event)) place ends.event ends.stands) [
+    elim (stands_split (seen_in opening history) (seen_of opening history event (outputs_of opening history event)) place ends.event ends.stands) [
       | inl old ↦
-          let was : EndsAt (seen_in history) place (named_request lane op) = record { event = ends.event; stands = old; ends = ends.ends } in
+          let was : EndsAt (seen_in opening history) place (named_request lane op) = record { event = ends.event; stands = old; ends = ends.ends } in
           before place lane op (live_before history (entry_of opening history event) lane op (seen_ended opening history legal place (named_request lane op) was) live).live was
       | inr behind ↦
           elim (seen_cases opening history event behind.offset ends.event behind.stands) [
-            | inl began ↦ let wrong : Some (named_request lane op) ≡ None = sym ends.ends ∙ ap ended_by began.is ∙ begin_ends (named_request began.lane (next_op history began.lane)) began.operation in cc
+            | inl began ↦ let wrong : Some (named_request lane op) ≡ None = sym ends.ends ∙ ap ended_by began.is ∙ begin_ends (named_request began.lane (next_op history began.lane)) began.operation began.asked in cc
             | inr told ↦
                 let name : named_request lane op ≡ named_request told.lane told.op = ended_name told.lane told.op told.reply ends.event (named_request lane op) told.is ends.ends in
                 let P : Named → Type 0 = λ n. is_live (entry_of opening history event ∷ history) n.lane n.op ≡ true in

@@ -41,6 +41,7 @@ use Rattle.cluster_history.specs.declared.data.Event.TheVariants.{Serve}
 use Rattle.cluster_history.specs.declared.data.Opening.{Opening}
 use Rattle.cluster_history.specs.declared.data.Operation.{Operation}
 use Rattle.cluster_history.specs.declared.data.Operation.TheVariants.{Write as WriteOf}
+use Rattle.stage_graph.specs.declared.level.Level.{Level}
 use Rattle.history_facts.proofs.BegunLemmas.{request_at-later}
 use Rattle.history_facts.proofs.HostLemmas.{last-rises}
 use Rattle.history_facts.proofs.LegalLemmas.{legal_induction}
@@ -48,7 +49,7 @@ use Rattle.quorum_ops.specs.declared.data.Said.{Said}
 use Rattle.quorum_ops.specs.declared.data.Said.TheVariants.{Found, Stale as Refused, Written}
 use Rattle.register_model.specs.declared.data.Key.{Key}
 use Rattle.token_ring.specs.declared.token.Token.{Token}
-use Rattle.stream_law.specs.Covered.{holds, last_version}
+use Rattle.stream_law.specs.Covered.{held_at, holds, last_version}
 use Rattle.overlap_law.proofs.CleanLemmas.{IsLeftBehind, clean_lemma}
 use Rattle.tablet_map.proofs.Members.{host_of}
 use Rattle.overlap_law.proofs.LossLemmas.{view_is, view_known}
@@ -64,7 +65,7 @@ recent-before opening history entry version e =
     let rises = last-rises opening history entry in grind (arith, nat_tests)
 
 -- a host that drops nothing at the key holds no less than before
-pub holds-later : (opening : Opening) (history : History) (entry : Entry) (key : Key) (cell : Cell) (replica : Replica) → drops opening history entry replica.host key ≡ false → holds opening history key cell replica ≡ true → holds opening (entry ∷ history) key cell replica ≡ true
+pub holds-later : (opening : Opening) (history : History) (entry : Entry) (key : Key) (cell : Cell) (replica : Replica) → drops opening history entry replica.host key ≡ false → holds (held_at opening history key) cell replica ≡ true → holds (held_at opening (entry ∷ history) key) cell replica ≡ true
 holds-later opening history entry key cell replica none h =
     let was = held_cell opening history replica.host key in
     let more = stored_cell opening history entry replica.host key in
@@ -88,69 +89,70 @@ no_found version fence cell e = by_fence (nat_lt version.0 fence.0) e
     by_fence true h = cc
     by_fence false h = cc
 
-holds_of : (opening : Opening) (history : History) (a b : Replica) (key other : Key) (cell same : Cell) → a ≡ b → key ≡ other → cell ≡ same → holds opening history key cell a ≡ true → holds opening history other same b ≡ true
+holds_of : (opening : Opening) (history : History) (a b : Replica) (key other : Key) (cell same : Cell) → a ≡ b → key ≡ other → cell ≡ same → holds (held_at opening history key) cell a ≡ true → holds (held_at opening history other) same b ≡ true
 holds_of opening history a b key other cell same r k c h =
-    ap (λ (x : Replica). holds opening history other same x) (sym r) ∙ ap (λ (x : Key). holds opening history x same a) (sym k) ∙ ap (λ (x : Cell). holds opening history key x a) (sym c) ∙ h
+    ap (λ (x : Replica). holds (held_at opening history other) same x) (sym r) ∙ ap (λ (x : Key). holds (held_at opening history x) same a) (sym k) ∙ ap (λ (x : Cell). holds (held_at opening history key) x a) (sym c) ∙ h
 
-write_cell : (table other : TableId) (token same : Token) (cell is : Cell) → WriteOf table token cell ≡ WriteOf other same is → cell ≡ is
-write_cell table other token same cell is e = cc
+write_cell : (table other : TableId) (token same : Token) (cell is : Cell) (a b : Level) → WriteOf table token cell a ≡ WriteOf other same is b → cell ≡ is
+write_cell table other token same cell is a b e = cc
 
 -- a host that says by an event that it wrote holds no less after it
 pub says_holds :
     (opening : Opening) (history : History) (event : Event) → IsLegalHistory opening history → broken_rule opening history event ≡ None →
-    (lane : LaneId) (op : OpId) (from : Replica) (request : Request) (table : TableId) (token : Token) (cell : Cell) →
-    request_at opening (entry_of opening history event ∷ history) lane op ≡ Some request → request.operation ≡ WriteOf table token cell →
+    (lane : LaneId) (op : OpId) (from : Replica) (request : Request) (table : TableId) (token : Token) (cell : Cell) (level : Level) →
+    request_at opening (entry_of opening history event ∷ history) lane op ≡ Some request → request.operation ≡ WriteOf table token cell level →
     list_any (is_answer_of lane op from is_written) (outputs_of opening history event) ≡ true →
-    holds opening (entry_of opening history event ∷ history) (key_of (WriteOf table token cell)) cell from ≡ true
-says_holds opening history event legal fine lane op from request table token cell begun is h =
+    holds (held_at opening (entry_of opening history event ∷ history) (key_of (WriteOf table token cell level))) cell from ≡ true
+says_holds opening history event legal fine lane op from request table token cell level begun is h =
     let found : IsSaid (outputs_of opening history event) lane op from is_written = said_found (outputs_of opening history event) lane op from is_written h in
     elim (says opening history event found.place lane op from found.said fine found.stands) [
       | inr read ↦ absurd (no_found read.ask.version (fence_of opening history read.host) (held_cell opening history read.host (read_key read.ask)) (ap is_written (sym read.said_is) ∙ found.passes))
       | inl write ↦
-          let asked : IsAsked opening history lane op write.ask.version (WriteOf write.ask.table write.ask.token write.ask.cell) from = write_asked opening history event lane op from found.said legal write in
+          let fact = write_asked opening history event lane op from found.said legal write in
+          let asked : IsAsked opening history lane op write.ask.version (WriteOf write.ask.table write.ask.token write.ask.cell fact.0) from = fact.1 in
           let same : asked.request ≡ request = some_same asked.request request (sym (request_at-later opening history (entry_of opening history event) lane op asked.request asked.begun) ∙ begun) in
-          let what : WriteOf write.ask.table write.ask.token write.ask.cell ≡ WriteOf table token cell = sym asked.operation_is ∙ ap (λ (q : Request). q.operation) same ∙ is in
-          let P : Event → Type 0 = λ e. holds opening (entry_of opening history e ∷ history) (key_of (WriteOf table token cell)) cell from ≡ true in
+          let what : WriteOf write.ask.table write.ask.token write.ask.cell fact.0 ≡ WriteOf table token cell level = sym asked.operation_is ∙ ap (λ (q : Request). q.operation) same ∙ is in
+          let P : Event → Type 0 = λ e. holds (held_at opening (entry_of opening history e ∷ history) (key_of (WriteOf table token cell level))) cell from ≡ true in
           let served = entry_of opening history (Serve write.host write.at) in
           let stored : IsNotBelow (held_cell opening (served ∷ history) write.host (written_key write.ask)) (Some write.ask.cell) =
           held-served opening history write.host write.at write.ask write.asked
           (written_fine write.ask.version (fence_of opening history write.host) Written (ap is_written (sym write.said_is) ∙ found.passes)) in
-          let here : holds opening (served ∷ history) (written_key write.ask) write.ask.cell write.ask.to ≡ true =
+          let here : holds (held_at opening (served ∷ history) (written_key write.ask)) write.ask.cell write.ask.to ≡ true =
           subst (λ (host : HostId). is_not_below (held_cell opening (served ∷ history) host (written_key write.ask)) (Some write.ask.cell) ≡ true) (sym write.addressed) stored in
           subst P (sym write.event_is)
-          (holds_of opening (served ∷ history) write.ask.to from (written_key write.ask) (key_of (WriteOf table token cell)) write.ask.cell cell
-          write.from_is (ap key_of what) (write_cell write.ask.table table write.ask.token token write.ask.cell cell what) here)
+          (holds_of opening (served ∷ history) write.ask.to from (written_key write.ask) (key_of (WriteOf table token cell level)) write.ask.cell cell
+          write.from_is (ap key_of what) (write_cell write.ask.table table write.ask.token token write.ask.cell cell fact.0 level what) here)
     ]
 
 -- ---- said is kept
 
 -- the replica's host holds no less than the cell, or the key's move has left it behind
 abbrev pub HoldsOrLeft : Opening → History → Key → Cell → Replica → Type 0
-HoldsOrLeft opening history key cell replica = (holds opening history key cell replica ≡ true) ⊎ IsLeftBehind opening history replica.host key
+HoldsOrLeft opening history key cell replica = (holds (held_at opening history key) cell replica ≡ true) ⊎ IsLeftBehind opening history replica.host key
 
 -- So it is with a replica that said that it wrote the request's cell, as long as the request's version is the log's or
 -- the one before it.
 abbrev pub SaidKept : Opening → History → Type 0
 SaidKept opening history =
-    (lane : LaneId) (op : OpId) (from : Replica) (request : Request) (table : TableId) (token : Token) (cell : Cell) →
-    request_at opening history lane op ≡ Some request → request.operation ≡ WriteOf table token cell →
+    (lane : LaneId) (op : OpId) (from : Replica) (request : Request) (table : TableId) (token : Token) (cell : Cell) (level : Level) →
+    request_at opening history lane op ≡ Some request → request.operation ≡ WriteOf table token cell level →
     is_recent opening history request.version ≡ true → has_said history lane op from is_written ≡ true →
-    HoldsOrLeft opening history (key_of (WriteOf table token cell)) cell from
+    HoldsOrLeft opening history (key_of (WriteOf table token cell level)) cell from
 
 pub recent_last : (last version : ℕ) → nat_le last (version + 1) ≡ true → last ≤ version + 1
 recent_last last version e = grind (arith, nat_tests)
 
 -- nobody to whom a write of the log's version went is left behind
 pub target_stays :
-    (opening : Opening) (history : History) (lane : LaneId) (op : OpId) (from : Replica) (request : Request) (table : TableId) (token : Token) (cell : Cell) →
+    (opening : Opening) (history : History) (lane : LaneId) (op : OpId) (from : Replica) (request : Request) (table : TableId) (token : Token) (cell : Cell) (level : Level) →
     IsValidOpening opening → IsLegalHistory opening history →
-    request_at opening history lane op ≡ Some request → request.operation ≡ WriteOf table token cell →
+    request_at opening history lane op ≡ Some request → request.operation ≡ WriteOf table token cell level →
     last_version opening history ≤ request.version.0 → has_replica request.targets from ≡ true →
-    IsLeftBehind opening history from.host (key_of (WriteOf table token cell)) → ⊥
-target_stays opening history lane op from request table token cell valid legal begun is newest among left =
+    IsLeftBehind opening history from.host (key_of (WriteOf table token cell level)) → ⊥
+target_stays opening history lane op from request table token cell level valid legal begun is newest among left =
     let first = opening_state opening in
     let log = log_of history in
-    let key = key_of (WriteOf table token cell) in
+    let key = key_of (WriteOf table token cell level) in
     let route : IsRouted opening history lane request = routed opening history lane op request begun in
     let shown : view_at opening history request.version key ≡ Some route.tablet = ap (λ s. view_in s key) route.found ∙ ap (λ (o : Operation). view_in (Some route.state) (key_of o)) (sym is) ∙ route.there in
     let below = view_known opening history request.version key route.tablet shown in
@@ -166,21 +168,21 @@ target_stays opening history lane op from request table token cell valid legal b
 pub said_kept : (opening : Opening) → IsValidOpening opening → (history : History) → IsLegalHistory opening history → SaidKept opening history
 said_kept opening valid =
     legal_induction opening (SaidKept opening)
-    (λ lane op from request table token cell begun is recent said. cc)
+    (λ lane op from request table token cell level begun is recent said. cc)
     step
   where
     step : (history : History) (event : Event) → IsLegalHistory opening history → HasActor opening event → IsFitEvent opening event → broken_rule opening history event ≡ None → SaidKept opening history → SaidKept opening (entry_of opening history event ∷ history)
-    step history event legal actor fit fine before lane op from request table token cell begun is recent said =
-        elim (has_said history lane op from is_written) as (λ b. has_said history lane op from is_written ≡ b → (b || list_any (is_answer_of lane op from is_written) (outputs_of opening history event)) ≡ true → HoldsOrLeft opening (entry_of opening history event ∷ history) (key_of (WriteOf table token cell)) cell from) [
+    step history event legal actor fit fine before lane op from request table token cell level begun is recent said =
+        elim (has_said history lane op from is_written) as (λ b. has_said history lane op from is_written ≡ b → (b || list_any (is_answer_of lane op from is_written) (outputs_of opening history event)) ≡ true → HoldsOrLeft opening (entry_of opening history event ∷ history) (key_of (WriteOf table token cell level)) cell from) [
           | true ↦ λ old h. kept old (request-then opening history (entry_of opening history event) lane op request (said_known opening history legal lane op from is_written old) begun)
-          | false ↦ λ old h. inl (says_holds opening history event legal fine lane op from request table token cell begun is h)
+          | false ↦ λ old h. inl (says_holds opening history event legal fine lane op from request table token cell level begun is h)
         ] refl said
       where
-        kept : has_said history lane op from is_written ≡ true → request_at opening history lane op ≡ Some request → HoldsOrLeft opening (entry_of opening history event ∷ history) (key_of (WriteOf table token cell)) cell from
+        kept : has_said history lane op from is_written ≡ true → request_at opening history lane op ≡ Some request → HoldsOrLeft opening (entry_of opening history event ∷ history) (key_of (WriteOf table token cell level)) cell from
         kept old begun_then =
             let entry = entry_of opening history event in
-            let key = key_of (WriteOf table token cell) in
-            elim (before lane op from request table token cell begun_then is (recent-before opening history entry request.version recent) old) [
+            let key = key_of (WriteOf table token cell level) in
+            elim (before lane op from request table token cell level begun_then is (recent-before opening history entry request.version recent) old) [
               | inl holds_then ↦
                   (elim (drops opening history entry from.host key) as (λ b. drops opening history entry from.host key ≡ b → HoldsOrLeft opening (entry ∷ history) key cell from) [
                     | true ↦ λ dropped. inr (left-later opening history entry from.host key (drop_keeps_last opening history event from.host key dropped) (clean_lemma opening history event valid legal from.host key dropped))
@@ -196,6 +198,6 @@ said_kept opening valid =
                         let same : target.request ≡ request = some_same target.request request (sym target.begun ∙ begun_then) in
                         let among : has_replica request.targets from ≡ true = ap (λ (q : Request). has_replica q.targets from) (sym same) ∙ target.among in
                         let near = recent_last (last_version opening (entry ∷ history)) request.version.0 recent in
-                        absurd (target_stays opening history lane op from request table token cell valid legal begun_then is (omega (arith, less, near)) among left)
+                        absurd (target_stays opening history lane op from request table token cell level valid legal begun_then is (omega (arith, less, near)) among left)
                   ]
             ]

@@ -26,11 +26,12 @@ use Rattle.cluster_history.specs.declared.data.Message.TheVariants.{Answer as An
 use Rattle.cluster_history.specs.declared.data.Opening.{Opening}
 use Rattle.cluster_history.specs.declared.data.Operation.{Operation}
 use Rattle.cluster_history.specs.declared.data.Operation.TheVariants.{Read as ReadOf, Write as WriteOf}
+use Rattle.stage_graph.specs.declared.level.Level.{Level}
 use Rattle.cluster_history.specs.declared.data.Output.{Output}
 use Rattle.cluster_history.specs.declared.data.Output.TheVariants.{Sent}
 use Rattle.history_facts.proofs.BegunLemmas.{request_at-kept, request_at-later, request_begun}
 use Rattle.history_facts.proofs.LegalLemmas.{legal_induction, sent_split}
-use Rattle.history_facts.proofs.NameLemmas.{and_true, both_true, or_first, or_second, same_lane-refl, same_lane-same, same_op-refl, same_op-same, same_replica-refl, same_replica-same}
+use Rattle.base_ids.proofs.NameLemmas.{and_true, both_true, or_first, or_second, same_lane-refl, same_lane-same, same_op-refl, same_op-same, same_replica-refl, same_replica-same}
 use Rattle.history_facts.proofs.SentLemmas.{Sends, sends}
 use Rattle.history_facts.proofs.SentLemmas.Sends.{sends_ask, sends_chunk, sends_chunk_ask, sends_cleaned, sends_fact, sends_found, sends_not_mine, sends_question, sends_written}
 use Rattle.quorum_ops.specs.declared.data.Answer.{Answer}
@@ -149,8 +150,8 @@ said_by opening history event message answer (sends_ask {lane = lane} {operation
     absurd (no_answer operation is)
   where
     no_answer : (operation : Operation) → ask_of lane (next_op history lane) version operation to ≡ AnswerSent answer → ⊥
-    no_answer (WriteOf table token cell) e = cc e
-    no_answer (ReadOf table token) e = cc e
+    no_answer (WriteOf table token cell level) e = cc e
+    no_answer (ReadOf table token level) e = cc e
 said_by opening history event message answer (sends_chunk ask asked here) is = cc is
 said_by opening history event message answer (sends_fact ask asked here so) is = cc is
 said_by opening history event message answer (sends_cleaned ask session asked here what mine) is = cc is
@@ -186,17 +187,17 @@ asked_of opening history lane by op number version operation from to l n r asked
 -- what a write ask, or a read ask, that was served asked
 pub write_asked :
     (opening : Opening) (history : History) (event : Event) (lane : LaneId) (op : OpId) (from : Replica) (said : Said) → IsLegalHistory opening history →
-    (write : IsWriteSaid opening history event lane op from said) → IsAsked opening history lane op write.ask.version (WriteOf write.ask.table write.ask.token write.ask.cell) from
+    (write : IsWriteSaid opening history event lane op from said) → (level : Level) × IsAsked opening history lane op write.ask.version (WriteOf write.ask.table write.ask.token write.ask.cell level) from
 write_asked opening history event lane op from said legal write =
-    asked_of opening history lane write.ask.lane op write.ask.op write.ask.version (WriteOf write.ask.table write.ask.token write.ask.cell) from write.ask.to write.lane_is write.op_is write.from_is
-    (ask_fact opening history legal write.at (WriteSent write.ask) write.asked)
+    let fact = ask_fact opening history legal write.at (WriteSent write.ask) write.asked in
+    (fact.0, asked_of opening history lane write.ask.lane op write.ask.op write.ask.version (WriteOf write.ask.table write.ask.token write.ask.cell fact.0) from write.ask.to write.lane_is write.op_is write.from_is fact.1)
 
 pub read_asked :
     (opening : Opening) (history : History) (event : Event) (lane : LaneId) (op : OpId) (from : Replica) (said : Said) → IsLegalHistory opening history →
-    (read : IsReadSaid opening history event lane op from said) → IsAsked opening history lane op read.ask.version (ReadOf read.ask.table read.ask.token) from
+    (read : IsReadSaid opening history event lane op from said) → (level : Level) × IsAsked opening history lane op read.ask.version (ReadOf read.ask.table read.ask.token level) from
 read_asked opening history event lane op from said legal read =
-    asked_of opening history lane read.ask.lane op read.ask.op read.ask.version (ReadOf read.ask.table read.ask.token) from read.ask.to read.lane_is read.op_is read.from_is
-    (ask_fact opening history legal read.at (ReadSent read.ask) read.asked)
+    let fact = ask_fact opening history legal read.at (ReadSent read.ask) read.asked in
+    (fact.0, asked_of opening history lane read.ask.lane op read.ask.op read.ask.version (ReadOf read.ask.table read.ask.token fact.0) from read.ask.to read.lane_is read.op_is read.from_is fact.1)
 
 -- of whom something was said by an event, he was asked before
 pub newly_known :
@@ -206,8 +207,8 @@ pub newly_known :
 newly_known opening history event lane op from test legal fine h =
     let found : IsSaid (outputs_of opening history event) lane op from test = said_found (outputs_of opening history event) lane op from test h in
     elim (says opening history event found.place lane op from found.said fine found.stands) [
-      | inl write ↦ let asked = write_asked opening history event lane op from found.said legal write in record { request = asked.request; begun = asked.begun }
-      | inr read ↦ let asked = read_asked opening history event lane op from found.said legal read in record { request = asked.request; begun = asked.begun }
+      | inl write ↦ let asked = (write_asked opening history event lane op from found.said legal write).1 in record { request = asked.request; begun = asked.begun }
+      | inr read ↦ let asked = (read_asked opening history event lane op from found.said legal read).1 in record { request = asked.request; begun = asked.begun }
     ]
 
 pub said_known :
@@ -247,10 +248,10 @@ said_target opening =
           let found : IsSaid (outputs_of opening history event) lane op from test = said_found (outputs_of opening history event) lane op from test h in
           elim (says opening history event found.place lane op from found.said fine found.stands) [
             | inl write ↦
-                let asked = write_asked opening history event lane op from found.said legal write in
+                let asked = (write_asked opening history event lane op from found.said legal write).1 in
                 record { request = asked.request; begun = request_at-later opening history (entry_of opening history event) lane op asked.request asked.begun; among = asked.among }
             | inr read ↦
-                let asked = read_asked opening history event lane op from found.said legal read in
+                let asked = (read_asked opening history event lane op from found.said legal read).1 in
                 record { request = asked.request; begun = request_at-later opening history (entry_of opening history event) lane op asked.request asked.begun; among = asked.among }
           ]
     ] refl said)

@@ -1,6 +1,6 @@
 -- What an event adds to what clients see.
 use Rattle.std.proofs.Common.{arith, inl, inr, refl}
-use Rattle.std.specs.Prelude.{List, None, Some, [], length, slice_get, suc, true, zero, ℕ, ◌++◌, ◌+◌, ◌∷◌, ◌≡◌, ◌⊎◌}
+use Rattle.std.specs.Prelude.{List, None, Option, Some, [], length, slice_get, suc, true, zero, ℕ, ◌++◌, ◌+◌, ◌∷◌, ◌≡◌, ◌⊎◌}
 use Rattle.base_ids.specs.declared.ids.LaneId.{LaneId}
 use Rattle.base_ids.specs.declared.ids.OpId.{OpId}
 use Rattle.base_ids.specs.declared.ids.Version.{Version}
@@ -14,14 +14,15 @@ use Rattle.cluster_history.specs.declared.data.Operation.{Operation}
 use Rattle.cluster_history.specs.declared.data.Operation.TheVariants.{Read as ReadOf, Write as WriteOf}
 use Rattle.cluster_history.specs.declared.data.Output.{Output}
 use Rattle.cluster_history.specs.declared.data.Output.TheVariants.{Reply as Replied}
-use Rattle.history_facts.proofs.NameLemmas.{same_lane-refl}
+use Rattle.base_ids.proofs.NameLemmas.{same_lane-refl}
 use Rattle.quorum_ops.specs.declared.data.Reply.{Reply}
 use Rattle.quorum_ops.specs.declared.data.Reply.TheVariants.{NoTable, NotMember, Ok, Read, Stale, Timeout as TimedOut}
 use Rattle.register_model.specs.Register.{begun_by, ended_by}
 use Rattle.register_model.specs.declared.data.ClientEvent.{ClientEvent}
 use Rattle.register_model.specs.declared.data.Request.{Request as Named}
 use Rattle.stage_graph.specs.declared.kind.Kind.{Kind}
-use Rattle.overlap_law.specs.ClientEvents.{begin_event, named_request, reply_event, reply_events, seen_of}
+use Rattle.tablet_map.specs.declared.tablet.Tablet.{Tablet}
+use Rattle.overlap_law.specs.ClientEvents.{asked_at, begin_event, named_request, reply_event, reply_events, seen_of}
 
 -- ---- places in a list that goes on
 
@@ -85,13 +86,13 @@ reply_ends request (TimedOut answered required) = refl
 reply_ends request NoTable = refl
 reply_ends request NotMember = refl
 
-pub begin_begins : (request : Named) (operation : Operation) → begun_by (begin_event request operation) ≡ Some request
-begin_begins request (WriteOf table token cell) = refl
-begin_begins request (ReadOf table token) = refl
+pub begin_begins : (request : Named) (operation : Operation) (asked : Option Tablet) → begun_by (begin_event request operation asked) ≡ Some request
+begin_begins request (WriteOf table token cell level) asked = refl
+begin_begins request (ReadOf table token level) asked = refl
 
-pub begin_ends : (request : Named) (operation : Operation) → ended_by (begin_event request operation) ≡ None
-begin_ends request (WriteOf table token cell) = refl
-begin_ends request (ReadOf table token) = refl
+pub begin_ends : (request : Named) (operation : Operation) (asked : Option Tablet) → ended_by (begin_event request operation asked) ≡ None
+begin_ends request (WriteOf table token cell level) asked = refl
+begin_ends request (ReadOf table token level) asked = refl
 
 -- ---- what clients see of one event
 
@@ -100,9 +101,10 @@ pub record IsBegun (history : History) (event : Event) (offset : ℕ) (seen : Cl
   pub lane : LaneId
   pub operation : Operation
   pub version : Version
+  pub asked : Option Tablet
   pub event_is : event ≡ Begin lane operation version
   pub first : offset ≡ 0
-  pub is : seen ≡ begin_event (named_request lane (next_op history lane)) operation
+  pub is : seen ≡ begin_event (named_request lane (next_op history lane)) operation asked
 
 -- or the client of a request of the event's lane is told a reply
 pub record IsTold (opening : Opening) (history : History) (event : Event) (seen : ClientEvent) : Type 0 where
@@ -120,9 +122,9 @@ told : (opening : Opening) (history : History) (event : Event) (lane : LaneId) (
 told opening history event lane seen own reply =
     record { lane = lane; own = own; op = reply.op; version = reply.version; kind = reply.kind; reply = reply.reply; place = reply.place; stands = reply.stands; is = reply.is }
 
-pub seen_cases : (opening : Opening) (history : History) (event : Event) (offset : ℕ) (seen : ClientEvent) → slice_get (seen_of history event (outputs_of opening history event)) offset ≡ Some seen → IsBegun history event offset seen ⊎ IsTold opening history event seen
+pub seen_cases : (opening : Opening) (history : History) (event : Event) (offset : ℕ) (seen : ClientEvent) → slice_get (seen_of opening history event (outputs_of opening history event)) offset ≡ Some seen → IsBegun history event offset seen ⊎ IsTold opening history event seen
 seen_cases opening history (Begin lane operation version) zero seen e =
-    inl (record { lane = lane; operation = operation; version = version; event_is = refl; first = refl; is = cc })
+    inl (record { lane = lane; operation = operation; version = version; asked = asked_at opening history lane operation version; event_is = refl; first = refl; is = cc })
 seen_cases opening history (Begin lane operation version) (suc offset) seen e =
     inr (told opening history (Begin lane operation version) lane seen (same_lane-refl lane) (reply_seen lane (outputs_of opening history (Begin lane operation version)) offset seen e))
 seen_cases opening history (Take lane at) offset seen e =

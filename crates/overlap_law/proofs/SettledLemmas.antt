@@ -3,7 +3,7 @@ use Rattle.std.proofs.Common.{ap, arith, inl, inr, refl, subst, sym, ◌∙◌}
 use Rattle.std.proofs.lemmas.Bool.{cases_lt}
 use Rattle.std.proofs.lemmas.Bool.Decides.{nat_tests}
 use Rattle.std.specs.List.{list_any}
-use Rattle.std.specs.Prelude.{None, Option, Some, [], false, length, nat_le, slice_get, true, ℕ, ◌&&◌, ◌+◌, ◌<◌, ◌||◌, ◌∷◌, ◌≡◌, ◌≤◌, ◌⊎◌}
+use Rattle.std.specs.Prelude.{None, Option, Some, [], false, if◌then◌else◌, length, nat_le, slice_get, true, ℕ, ◌&&◌, ◌+◌, ◌<◌, ◌||◌, ◌∷◌, ◌≡◌, ◌≤◌, ◌⊎◌}
 use Rattle.barrier_law.proofs.LateLemmas.{freeze}
 use Rattle.barrier_law.specs.Laws.{IsRefusal}
 use Rattle.base_ids.specs.declared.ids.HostId.{HostId}
@@ -13,31 +13,34 @@ use Rattle.base_ids.specs.declared.ids.OpId.{OpId}
 use Rattle.base_ids.specs.declared.ids.Replica.{Replica}
 use Rattle.base_ids.specs.declared.ids.Version.{Version}
 use Rattle.cluster_history.specs.Held.{is_written}
-use Rattle.cluster_history.specs.History.{History}
+use Rattle.cluster_history.specs.History.{History, message_at, message_of, output_at}
 use Rattle.cluster_history.specs.Legal.{HasActor, IsFitEvent, IsLegalHistory, broken_rule, entry_of, outputs_of}
-use Rattle.cluster_history.specs.Messages.{kind_of}
+use Rattle.cluster_history.specs.Messages.{is_answer, is_for, kind_of, level_of}
+use Rattle.cluster_history.specs.Rules.{message_rule}
+use Rattle.base_ids.specs.declared.ids.Actor.TheVariants.{Lane as ByLane}
+use Rattle.base_ids.specs.declared.rules.EventRule.TheVariants.{WrongMessage}
+use Rattle.cluster_history.specs.declared.data.Message.{Message}
+use Rattle.cluster_history.specs.declared.data.Output.{Output}
 use Rattle.cluster_history.specs.Openings.{IsValidOpening}
 use Rattle.cluster_history.specs.Requests.{Request, begun_count, is_live, request_at}
 use Rattle.cluster_history.specs.declared.data.Entry.{Entry}
 use Rattle.cluster_history.specs.declared.data.Event.{Event}
-use Rattle.cluster_history.specs.declared.data.Event.TheVariants.{Serve}
+use Rattle.cluster_history.specs.declared.data.Event.TheVariants.{Serve, Take}
 use Rattle.cluster_history.specs.declared.data.Message.TheVariants.{Answer as AnswerSent}
 use Rattle.cluster_history.specs.declared.data.Opening.{Opening}
 use Rattle.cluster_history.specs.declared.data.Output.TheVariants.{Sent}
 use Rattle.history_facts.proofs.BegunLemmas.{live_before, request_at-kept, request_at-later, request_begun}
 use Rattle.history_facts.proofs.HostLemmas.{within_log}
 use Rattle.history_facts.proofs.LegalLemmas.{as_event, next_event}
-use Rattle.history_facts.proofs.NameLemmas.{and_true, both_true, is_false, or_first, or_second, or_true}
+use Rattle.base_ids.proofs.NameLemmas.{and_true, both_true, is_false, or_first, or_second, or_true, same_lane-refl}
 use Rattle.history_facts.proofs.RouteLemmas.{held_back, routed}
 use Rattle.history_facts.specs.Laws.{IsRouted}
 use Rattle.quorum_ops.specs.declared.data.Answer.{Answer}
 use Rattle.quorum_ops.specs.declared.data.Said.{Said}
 use Rattle.quorum_ops.specs.declared.data.Said.TheVariants.{Stale as Refused}
-use Rattle.stage_graph.specs.Table.{needed}
-use Rattle.stage_graph.specs.declared.kind.Kind.{Kind}
-use Rattle.stage_graph.specs.declared.kind.Kind.TheVariants.{Read as ReadKind, Write as WriteKind}
+use Rattle.answer_law.proofs.UndecidedLemmas.{routed_sound}
+use Rattle.stage_graph.proofs.Needs.{needs_one}
 use Rattle.topo_state.specs.Lists.{stage_in}
-use Rattle.stage_graph.specs.declared.stage.Stage.{Stage}
 use Rattle.stream_law.specs.Covered.{last_version}
 use Rattle.answer_law.proofs.CountLemmas.{count_more, count_none}
 use Rattle.overlap_law.proofs.SaidLemmas.{IsKnown, IsSaid, newly_known, said_found, said_known, says, some_same}
@@ -105,14 +108,11 @@ settled_known opening (entry ∷ history) lane op e =
 
 -- ---- needs
 
-pub needs_one : (kind : Kind) (n : ℕ) (stage : Option Stage) → 1 ≤ needed kind n stage
-needs_one ReadKind n stage = omega arith
-needs_one WriteKind n stage = omega arith
-
-pub need_some : (opening : Opening) (history : History) (lane : LaneId) (op : OpId) (request : Request) → request_at opening history lane op ≡ Some request → 1 ≤ request.need
-need_some opening history lane op request begun =
+pub need_some : (opening : Opening) (history : History) (lane : LaneId) (op : OpId) (request : Request) → IsValidOpening opening → IsLegalHistory opening history → request_at opening history lane op ≡ Some request → 1 ≤ request.need
+need_some opening history lane op request valid legal begun =
     let route : IsRouted opening history lane request = routed opening history lane op request begun in
-    let one = needs_one (kind_of request.operation) (length route.tablet.replicas) (stage_in route.tablet) in
+    let sound = routed_sound opening history lane request valid legal route in
+    let one = needs_one (kind_of request.operation) (level_of request.operation) (length route.tablet.replicas) (stage_in route.tablet) sound.sound.replicas.some in
     omega (arith, one, route.need)
 
 -- ---- what is said of a late request
@@ -148,7 +148,7 @@ served_last : (opening : Opening) (history : History) (event : Event) (host : Ho
 served_last opening history event host at is =
     ap (λ e. last_version opening (entry_of opening history e ∷ history)) is
 
-module _ (opening : Opening) (history : History) (event : Event) (valid : IsValidOpening opening) (legal : IsLegalHistory opening history) (fine : broken_rule opening history event ≡ None) (lane : LaneId) (op : OpId) where
+module _ (opening : Opening) (history : History) (event : Event) (valid : IsValidOpening opening) (legal : IsLegalHistory opening history) (actor : HasActor opening event) (fit : IsFitEvent opening event) (fine : broken_rule opening history event ≡ None) (lane : LaneId) (op : OpId) where
   -- to a live request that is late now nobody newly says that it was written
   nobody_writes :
       (request : Request) → is_live history lane op ≡ true → request_at opening history lane op ≡ Some request →
@@ -192,7 +192,7 @@ module _ (opening : Opening) (history : History) (event : Event) (valid : IsVali
       elim (cases_lt (begun_count history lane) op.0) [
         | inl above ↦
             let none = count_none (λ from. has_said (entry_of opening history event ∷ history) lane op from is_written) (nobody_knows above) new.now.request.targets in
-            let some = need_some opening (entry_of opening history event ∷ history) lane op new.now.request new.now.begun in
+            let some = need_some opening (entry_of opening history event ∷ history) lane op new.now.request valid (next_event opening history event actor fit fine, legal) new.now.begun in
             absurd (omega (arith, none, some, new.now.enough))
         | inr below ↦
             let was = live_before history (entry_of opening history event) lane op below new.now.live in
@@ -222,12 +222,23 @@ settles_recent opening history event valid legal actor fit fine lane op request 
       known = live_known opening (entry_of opening history event ∷ history) lane op request (next_event opening history event actor fit fine, legal) new.now.live begun;
       recent =
           (elim (cases_lt (request.version.0 + 1) (last_version opening (entry_of opening history event ∷ history))) [
-            | inl late ↦ absurd (settles_recently opening history event valid legal fine lane op new request begun (omega (arith, late)))
+            | inl late ↦ absurd (settles_recently opening history event valid legal actor fit fine lane op new request begun (omega (arith, late)))
             | inr recent ↦ recent
           ]);
     }
 
 -- ---- freeze
+
+-- what was answered may be taken by the lane that it is for
+answer_taken : (opening : Opening) (history : History) (at : MsgRef) (answer : Answer) → message_at history at ≡ Some (AnswerSent answer) → broken_rule opening history (Take answer.lane at) ≡ None
+answer_taken opening history at answer sent = by_output (output_at history at) sent
+  where
+    by_output : (output : Option Output) → message_of output ≡ Some (AnswerSent answer) → message_rule (is_for (ByLane answer.lane) is_answer) output ≡ None
+    by_output (Some (Sent message)) e =
+        let same : message ≡ AnswerSent answer = cc e in
+        ap (λ (m : Message). message_rule (is_for (ByLane answer.lane) is_answer) (Some (Sent m))) same
+        ∙ ap (λ b. if b then None else Some WrongMessage) (same_lane-refl answer.lane)
+    by_output output e = cc e
 
 pub is_frozen : (opening : Opening) (history : History) (entry : Entry) → IsValidOpening opening → IsLegalHistory opening (entry ∷ history) → IsFrozen opening history entry
 is_frozen opening history entry valid legal =
@@ -244,4 +255,5 @@ is_frozen opening history entry valid legal =
                 | inl old ↦ let wrong : true ≡ false = sym old ∙ fresh in cc wrong
                 | inr new ↦ settles_recent opening history event valid legal.1 actor fit fine lane op request new begun
               ]);
+          taken = λ at answer sent. answer_taken opening (entry_of opening history event ∷ history) at answer sent;
         }

@@ -7,10 +7,7 @@ mod laws;
 mod seen;
 
 pub use laws::{
-    law_barrier, law_cover, law_freeze, law_headline, law_lag, law_loss, law_read_bound,
-    law_refine, law_stale_below_fences, law_stream, law_timeout_short,
+    law_barrier, law_cover, law_freeze, law_headline, law_lag, law_loss, law_quorum_reads,
+    law_refine, law_stream,
 };
 pub use seen::client_events;
-
-#[cfg(test)]
-mod tests;

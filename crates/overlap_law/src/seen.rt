@@ -1,19 +1,27 @@
 // The client events of a journal.
-ghost use Rattle.std.specs.Prelude.{◌≡◌, ◌+◌, ◌<◌, ◌^◌, ◌++◌, ◌∷◌, [], IfOk, OnOk, if◌then◌else◌};
+ghost use Rattle.std.specs.Prelude.{◌≡◌, ◌+◌, ◌<◌, ◌^◌, ◌++◌, ◌∷◌, [], IfOk, IfSome, OnOk, if◌then◌else◌};
 ghost use Rattle.base_ids.specs.declared.ids.LaneId.{LaneId};
 ghost use Rattle.base_ids.specs.Names.{same_lane};
 ghost use Rattle.cluster_history.specs.History.{History};
-ghost use Rattle.overlap_law.specs.ClientEvents.{named_request, begin_event, reply_event, reply_events, seen_of, client_events};
-ghost use Rattle.overlap_law.specs.Counts.{count_at, next_begin, next_number, IsCounted, IsCountedEntry, IsSeenOf};
+ghost use Rattle.cluster_history.specs.Legal.{IsLegalHistory, IsLegalRun, history_of};
+ghost use Rattle.cluster_history.specs.Messages.{key_of};
+ghost use Rattle.cluster_history.specs.Openings.{IsValidOpening, opening_state};
+ghost use Rattle.cluster_history.specs.Topology.{accepted_command};
+ghost use Rattle.topo_state.specs.Views.{view};
+ghost use Rattle.overlap_law.specs.ClientEvents.{named_request, reply_event, reply_events, seen_of, client_events};
+ghost use Rattle.overlap_law.specs.Counts.{CanFollow, IsCounted, IsCountedEntry, IsSeenOf, IsSize, accepted_index, asked_size, blind_by, count_at, is_answered, next_begin, next_number, size_of, sized_begin, strength_by, with_accepted};
 
-use base_ids::{Items, LaneId, NoMemory, OpId};
+use base_ids::{Appended, Items, LaneId, NoMemory, OpId, TableId};
 use cell_merge::{Body, Cell};
-use cluster_history::{Entry, Event, Journal, Operation, Output};
+use cluster_history::{Entry, Event, Journal, Opening, Operation, Output};
 use quorum_ops::Reply;
 use register_model::{ClientEvent, ClientEventList, Key, Request};
+use stage_graph::{Level, base};
 use std::alloc::Global;
 use std::collections::BTreeMap;
 use std::marker::Model;
+use token_ring::{Token, tablet_of};
+use topo_state::{Table, TableList, TopoState};
 
 /// How many requests each lane has begun.
 #[derive(Drop)]
@@ -62,26 +70,103 @@ impl Counts {
     }
 }
 
-/// What a client does that begins a request.
-fn begin_event(request: Request, operation: &Operation) -> ClientEvent
-    ensures { result ≡ begin_event request operation.now }
+/// How strong a write of the level is, where its tablet has so many replicas.
+fn strength_by(level: Level, size: Option<u8>) -> u8
+    requires { IfSome size IsSize }
+    ensures { result ≡ strength_by level size }
+{
+    match size {
+        None => 0,
+        Some(n) => base(level, n),
+    }
+}
+
+/// What a read of the level is blind to, where its tablet has so many replicas.
+fn blind_by(level: Level, size: Option<u8>) -> u8
+    requires { IfSome size IsSize }
+    ensures { result ≡ blind_by level size }
+{
+    match size {
+        None => 0,
+        Some(n) => n.saturating_sub(base(level, n)),
+    }
+}
+
+/// What a client does that begins a request, where its tablet has so many replicas.
+fn sized_begin(request: Request, operation: &Operation, size: Option<u8>) -> ClientEvent
+    requires { IfSome size IsSize }
+    ensures { result ≡ sized_begin request operation.now size }
 {
     match operation {
-        Operation::Write { table, token, cell } => ClientEvent::WriteBegun {
+        Operation::Write {
+            table,
+            token,
+            cell,
+            level,
+        } => ClientEvent::WriteBegun {
             request,
             key: Key {
                 table: *table,
                 token: *token,
             },
             cell: *cell,
+            strength: strength_by(*level, size),
         },
-        Operation::Read { table, token } => ClientEvent::ReadBegun {
+        Operation::Read {
+            table,
+            token,
+            level,
+        } => ClientEvent::ReadBegun {
             request,
             key: Key {
                 table: *table,
                 token: *token,
             },
+            blind: blind_by(*level, size),
         },
+    }
+}
+
+/// How many replicas the tablet of a key has. `None` where the table is not there.
+fn size_in(state: &TopoState, table: TableId, token: Token) -> Option<u8>
+    ensures size { result ≡ size_of (view state.now table token.value) }
+    ensures within { IfSome result IsSize }
+{
+    let found = state.table(table)?;
+    let tablet = tablet_of(found.map.log2(), token);
+    Some(found.map.replicas(tablet).len() as u8)
+}
+
+/// That of the key of an operation.
+fn key_size(state: &TopoState, operation: &Operation) -> Option<u8>
+    ensures size { result ≡ size_of (view state.now (key_of operation.now).table (key_of operation.now).token.value) }
+    ensures within { IfSome result IsSize }
+{
+    match operation {
+        Operation::Write { table, token, .. } => size_in(state, *table, *token),
+        Operation::Read { table, token, .. } => size_in(state, *table, *token),
+    }
+}
+
+/// Whether the outputs of a begin answer it at once.
+fn is_answered(outputs: &[Output]) -> bool
+    ensures { result ≡ is_answered outputs.now }
+{
+    match outputs {
+        [Output::Reply { .. }, ..] => true,
+        _ => false,
+    }
+}
+
+/// How many replicas the tablet of a request's key has, where it is not answered at once.
+fn asked_size(state: &TopoState, operation: &Operation, outputs: &[Output]) -> Option<u8>
+    ensures size { result ≡ asked_size state.now operation.now outputs.now }
+    ensures within { IfSome result IsSize }
+{
+    if is_answered(outputs) {
+        None
+    } else {
+        key_size(state, operation)
     }
 }
 
@@ -136,21 +221,28 @@ fn add_replies(lane: LaneId, outputs: &[Output], seen: &mut ClientEventList) -> 
 fn add_begin(
     lane: LaneId,
     operation: &Operation,
+    size: Option<u8>,
     counts: &mut Counts,
     seen: &mut ClientEventList,
 ) -> Result<(), NoMemory>
-    requires { count_at counts.old lane + 1 < 2 ^ 64 }
-    ensures events { OnOk result (seen.new ≡ seen.old ++ next_begin counts.old lane operation.now ∷ []) }
+    requires number { count_at counts.old lane + 1 < 2 ^ 64 }
+    requires size { IfSome size IsSize }
+    ensures events { OnOk result (seen.new ≡ seen.old ++ next_begin counts.old lane operation.now size ∷ []) }
     ensures counted { OnOk result (IsCounted counts.old counts.new lane) }
 {
     let op = counts.next(lane)?;
-    add(seen, begin_event(Request { lane, op }, operation))
+    add(seen, sized_begin(Request { lane, op }, operation, size))
 }
 
 /// Adds what clients see of an entry, and counts the request that it begins.
-fn add_entry(entry: &Entry, counts: &mut Counts, seen: &mut ClientEventList) -> Result<(), NoMemory>
+fn add_entry(
+    entry: &Entry,
+    state: &TopoState,
+    counts: &mut Counts,
+    seen: &mut ClientEventList,
+) -> Result<(), NoMemory>
     requires { (lane : LaneId) → count_at counts.old lane + 1 < 2 ^ 64 }
-    ensures events { OnOk result (IsSeenOf counts.old entry.now seen.old seen.new) }
+    ensures events { OnOk result (IsSeenOf counts.old state.now entry.now seen.old seen.new) }
     ensures counted { OnOk result (IsCountedEntry entry.now counts.old counts.new) }
 {
     match &entry.event {
@@ -159,7 +251,8 @@ fn add_entry(entry: &Entry, counts: &mut Counts, seen: &mut ClientEventList) -> 
             operation,
             ..
         } => {
-            add_begin(*lane, operation, counts, seen)?;
+            let size = asked_size(state, operation, entry.outputs.as_slice());
+            add_begin(*lane, operation, size, counts, seen)?;
             add_replies(*lane, entry.outputs.as_slice(), seen)
         }
         Event::Take { lane, .. } | Event::Timeout { lane, .. } => {
@@ -169,16 +262,67 @@ fn add_entry(entry: &Entry, counts: &mut Counts, seen: &mut ClientEventList) -> 
     }
 }
 
-/// What clients saw of the journal, in order: each request that began, and what clients were told. `NoMemory` comes
-/// where memory for that is refused.
-pub fn client_events(alloc: Global, journal: &Journal) -> Result<ClientEventList, NoMemory>
+/// The state goes on with the command that an entry adds to the log, where it adds one.
+fn follow(alloc: Global, entry: &Entry, state: &mut TopoState) -> Result<(), NoMemory>
+    requires { CanFollow state.old (accepted_command entry.now.event entry.now.outputs) }
+    ensures { OnOk result (state.new ≡ with_accepted state.old
+        (accepted_command entry.now.event entry.now.outputs)
+        (accepted_index entry.now.outputs)) }
+{
+    if let Event::Propose { command, .. } = &entry.event {
+        if let [Output::Proposed(Appended::Accepted { index }), ..] = entry.outputs.as_slice() {
+            state.apply(alloc, command, *index)?;
+        }
+    }
+    Ok(())
+}
+
+/// Equal tables.
+fn clones(alloc: Global, tables: &[Table]) -> Result<TableList, NoMemory>
+    ensures { IfOk result (λ copies. copies ≡ tables.now) }
+{
+    let mut copies = Items::new(alloc);
+    'tables: for table in tables {
+        copies.push(table.clone_in(alloc)?)?;
+    }
+    Ok(copies)
+}
+
+/// The topology at the opening.
+fn first_state(alloc: Global, opening: &Opening) -> Result<TopoState, NoMemory>
+    requires { IsValidOpening opening.now }
+    ensures { IfOk result (λ state. state ≡ opening_state opening.now) }
+{
+    let members = opening.members.clone_in(alloc)?;
+    let tables = clones(alloc, opening.tables.as_slice())?;
+    TopoState::new(alloc, opening.hosts, opening.shards, members, tables)
+}
+
+/// What clients saw of a journal with a valid opening, in order.
+fn all_events(alloc: Global, journal: &Journal) -> Result<ClientEventList, NoMemory>
+    requires valid { IsValidOpening journal.now.opening }
+    requires legal { IsLegalHistory journal.now.opening (history_of journal.now) }
     ensures { IfOk result (λ events. events ≡ client_events journal.now) }
 {
     let mut seen = Items::new(alloc);
     let mut counts = Counts::new(alloc);
+    let mut state = first_state(alloc, &journal.opening)?;
     let entries = journal.entries.as_slice();
     for entry in entries {
-        add_entry(entry, &mut counts, &mut seen)?;
+        add_entry(entry, &state, &mut counts, &mut seen)?;
+        follow(alloc, entry, &mut state)?;
     }
     Ok(seen)
+}
+
+/// What clients saw of a legal run, in order: each request that began, and what clients were told. It goes through the
+/// entries once, and keeps one state of the topology along them. `NoMemory` comes where memory for that is refused.
+pub fn client_events(alloc: Global, journal: &Journal) -> Result<ClientEventList, NoMemory>
+    requires { IsLegalRun journal.now }
+    ensures { IfOk result (λ events. events ≡ client_events journal.now) }
+{
+    if journal.entries.as_slice().is_empty() {
+        return Ok(Items::new(alloc));
+    }
+    all_events(alloc, journal)
 }

@@ -13,21 +13,24 @@ use Rattle.register_model.specs.declared.seen.Seen.{Seen}
 use Rattle.register_model.specs.Known.{request_standing, acked_of, was_written}
 use Rattle.register_model.specs.Register.{Stands, BeginsAt, EndsAt, WrittenBefore, IsRegisterRun}
 
--- a write of this cell to this key was acknowledged before this place
-pub record AckedBefore (events : List ClientEvent) (place : ℕ) (key : Key) (cell : Cell) : Type 0 where
+-- a write of this cell to this key was acknowledged before this place, of a strength above the blind number
+pub record AckedBefore (events : List ClientEvent) (place : ℕ) (key : Key) (blind : ℕ) (cell : Cell) : Type 0 where
   pub wrote : ℕ
   pub acked : ℕ
   pub writer : Request
-  pub writes : Stands events wrote (WriteBegun writer key cell)
+  pub strength : ℕ
+  pub seen : blind < strength
+  pub writes : Stands events wrote (WriteBegun writer key cell strength)
   pub acks : Stands events acked (WriteAcked writer)
   pub earlier : acked < place
 
--- a cell is not below this one exactly where it is below none that was acknowledged before this place
-abbrev pub IsGreatestAcked : List ClientEvent → ℕ → Key → Option Cell → Type 0
-IsGreatestAcked events place key greatest =
+-- a cell is not below this one exactly where it is below none that was acknowledged before this place by a write of a
+-- strength above the blind number
+abbrev pub IsGreatestAcked : List ClientEvent → ℕ → Key → ℕ → Option Cell → Type 0
+IsGreatestAcked events place key blind greatest =
     (cell : Option Cell) →
     IsNotBelow cell greatest
-    ↔ ((written : Cell) → AckedBefore events place key written → IsNotBelow cell (Some written))
+    ↔ ((written : Cell) → AckedBefore events place key blind written → IsNotBelow cell (Some written))
 
 -- no event begins, or ends, the request
 abbrev pub IsUnbegun : List ClientEvent → Request → Type 0
@@ -37,17 +40,20 @@ abbrev pub IsUnended : List ClientEvent → Request → Type 0
 IsUnended events request = (place : ℕ) → EndsAt events place request → ⊥
 
 -- the request is a write that has not ended
-pub record IsWriting (events : List ClientEvent) (request : Request) (key : Key) (cell : Cell) : Type 0 where
+pub record IsWriting (events : List ClientEvent) (request : Request) (key : Key) (cell : Cell) (strength : ℕ)
+    : Type 0 where
   pub at : ℕ
-  pub stands : Stands events at (WriteBegun request key cell)
+  pub stands : Stands events at (WriteBegun request key cell strength)
   pub unended : IsUnended events request
 
--- the request is a read that has not ended, and `least` the greatest cell that was acknowledged when it began
+-- the request is a read that has not ended, and `least` the greatest cell that was acknowledged when it began, of the
+-- writes that it is not blind to
 pub record IsReading (events : List ClientEvent) (request : Request) (key : Key) (least : Option Cell) : Type 0 where
   pub at : ℕ
-  pub stands : Stands events at (ReadBegun request key)
+  pub blind : ℕ
+  pub stands : Stands events at (ReadBegun request key blind)
   pub unended : IsUnended events request
-  pub greatest : IsGreatestAcked events at key least
+  pub greatest : IsGreatestAcked events at key blind least
 
 -- the request has begun and ended
 pub record IsDone (events : List ClientEvent) (request : Request) : Type 0 where
@@ -59,7 +65,7 @@ pub record IsDone (events : List ClientEvent) (request : Request) : Type 0 where
 -- the request stands so
 abbrev pub StandsSo : List ClientEvent → Request → Option Standing → Type 0
 StandsSo events request None = IsUnbegun events request
-StandsSo events request (Some (Writing key cell)) = IsWriting events request key cell
+StandsSo events request (Some (Writing key cell strength)) = IsWriting events request key cell strength
 StandsSo events request (Some (Reading key least)) = IsReading events request key least
 StandsSo events request (Some Done) = IsDone events request
 
@@ -67,7 +73,8 @@ StandsSo events request (Some Done) = IsDone events request
 pub record IsKeptRun (events : List ClientEvent) (seen : Seen) : Type 0 where
   pub run : IsRegisterRun events
   pub standing : (request : Request) → StandsSo events request (request_standing seen.standings request)
-  pub greatest : (key : Key) → IsGreatestAcked events (length events) key (acked_of seen.acked key)
+  pub greatest :
+      (key : Key) (blind : ℕ) → IsGreatestAcked events (length events) key blind (acked_of seen.acked key blind)
   pub written :
       (key : Key) (cell : Cell) →
       was_written seen.written key cell ≡ true ↔ WrittenBefore events (length events) key cell

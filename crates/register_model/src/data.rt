@@ -32,6 +32,9 @@ pub enum ClientEvent {
         key: Key,
         /// The cell that it writes.
         cell: Cell,
+        /// How strong it is: how many replicas its level asks for. Once it is acknowledged, a read that begins later
+        /// and is blind to less than that does not miss it.
+        strength: u8,
     },
     /// A write is acknowledged.
     WriteAcked {
@@ -44,6 +47,8 @@ pub enum ClientEvent {
         request: Request,
         /// The key that it reads.
         key: Key,
+        /// What it is blind to: how many replicas its level does not ask for. It may miss writes up to that strength.
+        blind: u8,
     },
     /// A read returns.
     ReadOk {

@@ -6,7 +6,7 @@ ghost use Rattle.register_model.specs.Kept.{IsKeptRun, Judges};
 ghost use Rattle.register_model.specs.Known.{is_none_or_written};
 
 use crate::data::{ClientEvent, Key, Request};
-use crate::known::{Acked, Standing, Standings, Written};
+use crate::known::{Acked, Sight, Standing, Standings, Written};
 use base_ids::NoMemory;
 use cell_merge::Cell;
 use std::alloc::Global;
@@ -41,17 +41,32 @@ impl Seen {
         ensures { Judges self.old event.now self.new result }
     {
         match event {
-            ClientEvent::WriteBegun { request, key, cell } => self.begin_write(request, key, cell),
+            ClientEvent::WriteBegun {
+                request,
+                key,
+                cell,
+                strength,
+            } => self.begin_write(request, key, cell, *strength),
             ClientEvent::WriteAcked { request } => self.acknowledge(request),
-            ClientEvent::ReadBegun { request, key } => self.begin_read(request, key),
+            ClientEvent::ReadBegun {
+                request,
+                key,
+                blind,
+            } => self.begin_read(request, key, *blind),
             ClientEvent::ReadOk { request, cell } => self.end_read(request, cell),
             ClientEvent::Ended { request } => self.end(request),
         }
     }
 
     /// A write begins.
-    fn begin_write(&mut self, request: &Request, key: &Key, cell: &Cell) -> Result<bool, NoMemory>
-        ensures { Judges self.old (ClientEvent.WriteBegun request.now key.now cell.now) self.new result }
+    fn begin_write(
+        &mut self,
+        request: &Request,
+        key: &Key,
+        cell: &Cell,
+        strength: u8,
+    ) -> Result<bool, NoMemory>
+        ensures { Judges self.old (ClientEvent.WriteBegun request.now key.now cell.now strength) self.new result }
     {
         match self.standings.get(request) {
             Some(_) => Ok(false),
@@ -59,6 +74,7 @@ impl Seen {
                 let standing = Standing::Writing {
                     key: *key,
                     cell: *cell,
+                    strength,
                 };
                 self.standings.set(request, standing)?;
                 self.written.add(key, cell)?;
@@ -72,8 +88,14 @@ impl Seen {
         ensures { Judges self.old (ClientEvent.WriteAcked request.now) self.new result }
     {
         match self.standings.get(request) {
-            Some(Standing::Writing { key, cell }) => {
-                self.acked.raise(key, cell)?;
+            Some(
+                Standing::Writing {
+                    key,
+                    cell,
+                    strength,
+                },
+            ) => {
+                self.acked.raise(key, *strength, cell)?;
                 self.standings.end(request)?;
                 Ok(true)
             }
@@ -84,15 +106,16 @@ impl Seen {
     }
 
     /// A read begins.
-    fn begin_read(&mut self, request: &Request, key: &Key) -> Result<bool, NoMemory>
-        ensures { Judges self.old (ClientEvent.ReadBegun request.now key.now) self.new result }
+    fn begin_read(&mut self, request: &Request, key: &Key, blind: u8) -> Result<bool, NoMemory>
+        ensures { Judges self.old (ClientEvent.ReadBegun request.now key.now blind) self.new result }
     {
         match self.standings.get(request) {
             Some(_) => Ok(false),
             None => {
+                let sight = Sight { key: *key, blind };
                 let standing = Standing::Reading {
                     key: *key,
-                    least: self.acked.get(key).copied(),
+                    least: self.acked.get(&sight).copied(),
                 };
                 self.standings.set(request, standing)?;
                 Ok(true)

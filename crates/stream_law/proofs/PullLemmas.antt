@@ -1,7 +1,7 @@
 -- Pulls and chunk asks are of the move of their session.
 use Rattle.std.proofs.Common.{arith, inl, inr, refl, subst, sym, ◌∙◌}
 use Rattle.std.specs.Option.{option_or}
-use Rattle.std.specs.Prelude.{None, Option, Some, [], false, if◌then◌else◌, not, true, ◌∷◌, ◌≡◌, ◌⊎◌}
+use Rattle.std.specs.Prelude.{None, Option, Some, [], false, if◌then◌else◌, not, true, ◌∷◌, ◌≡◌}
 use Rattle.answer_law.proofs.PrefixLemmas.{kept_since, sent_by}
 use Rattle.answer_law.proofs.TakenLemmas.{some_same}
 use Rattle.base_ids.specs.Names.{same_host}
@@ -24,7 +24,7 @@ use Rattle.cluster_history.specs.declared.data.Opening.{Opening}
 use Rattle.cluster_history.specs.declared.data.Operation.{Operation}
 use Rattle.cluster_history.specs.declared.data.Operation.TheVariants.{Read as ReadOf, Write as WriteOf}
 use Rattle.history_facts.proofs.HostLemmas.{applied-rises}
-use Rattle.history_facts.proofs.NameLemmas.{both_true, same_host-same}
+use Rattle.base_ids.proofs.NameLemmas.{both_true, same_host-same}
 use Rattle.history_facts.proofs.SentLemmas.{Sends}
 use Rattle.history_facts.proofs.SentLemmas.Sends.{sends_ask, sends_chunk, sends_chunk_ask, sends_cleaned, sends_fact, sends_found, sends_not_mine, sends_question, sends_written}
 use Rattle.history_facts.specs.Prefixes.{history_before}
@@ -212,8 +212,8 @@ chunk_ask_by opening history event message ask legal (sends_ask {lane = lane} {o
     absurd (no_chunk_ask operation e)
   where
     no_chunk_ask : (operation : Operation) → ask_of lane (next_op history lane) version operation to ≡ ChunkAskSent ask → ⊥
-    no_chunk_ask (WriteOf table token cell) e = cc e
-    no_chunk_ask (ReadOf table token) e = cc e
+    no_chunk_ask (WriteOf table token cell level) e = cc e
+    no_chunk_ask (ReadOf table token level) e = cc e
 chunk_ask_by opening history event message ask legal (sends_written asked sent here) e = cc e
 chunk_ask_by opening history event message ask legal (sends_found asked sent here) e = cc e
 chunk_ask_by opening history event message ask legal (sends_chunk asked sent here) e = cc e

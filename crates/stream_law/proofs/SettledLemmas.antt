@@ -14,7 +14,7 @@ use Rattle.cell_merge.specs.declared.cell.Cell.{Cell}
 use Rattle.cluster_history.specs.Held.{is_written}
 use Rattle.cluster_history.specs.History.{History}
 use Rattle.cluster_history.specs.Legal.{IsLegalHistory}
-use Rattle.cluster_history.specs.Messages.{key_of, kind_of}
+use Rattle.cluster_history.specs.Messages.{key_of, kind_of, level_of}
 use Rattle.cluster_history.specs.Openings.{IsValidOpening, opening_state}
 use Rattle.cluster_history.specs.Requests.{Request, begun_count, is_begin_of, is_live, request_at, targets_of}
 use Rattle.cluster_history.specs.Topology.{log_of}
@@ -25,7 +25,7 @@ use Rattle.group0_log.proofs.StateLemmas.{at_last}
 use Rattle.group0_log.specs.Log.{IsLegalLog, state_at, state_of}
 use Rattle.history_facts.proofs.BegunLemmas.{live_begun, request_at-kept}
 use Rattle.history_facts.proofs.HostLemmas.{log_legal}
-use Rattle.history_facts.proofs.NameLemmas.{both_true}
+use Rattle.base_ids.proofs.NameLemmas.{both_true}
 use Rattle.history_facts.proofs.RouteLemmas.{routed}
 use Rattle.history_facts.specs.Laws.{IsRouted}
 use Rattle.log_law.proofs.LawLemmas.{pairs_law}
@@ -35,7 +35,9 @@ use Rattle.log_law.specs.Pairs.{IsPair, KeepsQuorum, Matters, is_cleanable_host}
 use Rattle.log_law.specs.Pairs.Matters.{NewList}
 use Rattle.log_law.specs.Stages.{view_with}
 use Rattle.register_model.specs.declared.data.Key.{Key}
-use Rattle.stage_graph.specs.Table.{base_need, extra, needed, writes}
+use Rattle.stage_graph.specs.Needs.{base_need, extra, needed}
+use Rattle.stage_graph.specs.Table.{writes}
+use Rattle.stage_graph.specs.declared.kind.Kind.{Kind}
 use Rattle.stage_graph.specs.declared.stage.Stage.{Stage}
 use Rattle.stage_graph.specs.declared.stage.Stage.TheVariants.{Streaming}
 use Rattle.stage_graph.specs.declared.table.Selector.TheVariants.{New}
@@ -45,7 +47,7 @@ use Rattle.topo_state.specs.Lists.{chosen_list, is_both, stage_in, writes_both, 
 use Rattle.topo_state.specs.State.{Topology}
 use Rattle.topo_state.specs.Views.{view}
 use Rattle.topo_state.specs.declared.command.Command.{Command}
-use Rattle.stream_law.specs.Covered.{IsWriteOf, base_of, covered_count, holds, last_version}
+use Rattle.stream_law.specs.Covered.{IsWriteOf, base_of, covered_count, held_at, holds, last_version}
 use Rattle.stream_law.specs.Fed.{IsStreaming, SaidIsKept}
 use Rattle.stream_law.specs.Settled.{has_enough, has_said, is_settled, written_count}
 
@@ -91,7 +93,7 @@ settled_begun opening (entry ∷ history) lane op e =
 -- what was settled before an entry writes as it does after it
 pub write_before : (opening : Opening) (history : History) (entry : Entry) (lane : LaneId) (op : OpId) (request : Request) (key : Key) (cell : Cell) → is_settled opening history lane op ≡ true → IsWriteOf opening (entry ∷ history) lane op request key cell → IsWriteOf opening history lane op request key cell
 write_before opening history entry lane op request key cell settled write =
-    record { begun = sym (request_at-kept opening history entry lane op (settled_begun opening history lane op settled)) ∙ write.begun; writes = write.writes }
+    record { level = write.level; begun = sym (request_at-kept opening history entry lane op (settled_begun opening history lane op settled)) ∙ write.begun; writes = write.writes }
 
 -- ---- a write that settles while the tablet streams is covered in the new list
 
@@ -112,13 +114,13 @@ module _ (opening : Opening) (history : History) (valid : IsValidOpening opening
   -- by the tablet that the write went by, where a quorum of its targets is one of the new list now
   by_quorum :
       (old written : Tablet) → KeepsQuorum old tablet written → Matters old tablet written (chosen_list New tablet) → ((host : HostId) → is_cleanable_host tablet host ≡ false) →
-      request.targets ≡ writes_of written → request.need ≡ base_need (length written.replicas) + extra (writes (stage_in written)) → tablet.replicas ≡ written.replicas →
+      request.targets ≡ writes_of written → request.need ≡ base_need (level_of request.operation) (length written.replicas) + extra (writes (stage_in written)) → tablet.replicas ≡ written.replicas →
       base_of request tablet ≤ covered_count opening history key cell (chosen_list New tablet)
   by_quorum old written keeps matters spared targets need same =
       let told : request.need ≤ count_by said (writes_of written) = subst (λ replicas. request.need ≤ count_by said replicas) targets enough in
-      let base : base_of request tablet ≡ base_need (length written.replicas) = ap (λ replicas. base_need (length replicas)) same in
+      let base : base_of request tablet ≡ base_need (level_of request.operation) (length written.replicas) = ap (λ replicas. base_need (level_of request.operation) (length replicas)) same in
       let quorum = keeps (chosen_list New tablet) matters said (base_of request tablet) (omega (arith, told, need, base)) in
-      let more = count_more (λ (replica : Replica). said replica && not (is_cleanable_host tablet replica.host)) (holds opening history key cell)
+      let more = count_more (λ (replica : Replica). said replica && not (is_cleanable_host tablet replica.host)) (holds (held_at opening history key) cell)
       (λ replica h.
       kept lane op request key cell tablet replica write recent streaming.seen (both_true (said replica) (not (is_cleanable_host tablet replica.host)) h).0 (spared replica.host))
       (chosen_list New tablet) in
@@ -160,8 +162,8 @@ module _ (opening : Opening) (history : History) (valid : IsValidOpening opening
   targets : request.targets ≡ writes_of route.tablet
   targets = route.targets ∙ ap (λ (o : Operation). targets_of (kind_of o) route.tablet) write.writes
 
-  need : request.need ≡ base_need (length route.tablet.replicas) + extra (writes (stage_in route.tablet))
-  need = route.need ∙ ap (λ (o : Operation). needed (kind_of o) (length route.tablet.replicas) (stage_in route.tablet)) write.writes
+  need : request.need ≡ base_need (level_of request.operation) (length route.tablet.replicas) + extra (writes (stage_in route.tablet))
+  need = route.need ∙ ap (λ (k : Kind). needed k (level_of request.operation) (length route.tablet.replicas) (stage_in route.tablet)) (ap kind_of write.writes)
 
   at_last_version : request.version.0 ≡ last_version opening history → base_of request tablet ≤ covered_count opening history key cell (chosen_list New tablet)
   at_last_version same =
@@ -169,7 +171,7 @@ module _ (opening : Opening) (history : History) (valid : IsValidOpening opening
       some_tablet route.tablet tablet (sym seen_then ∙ ap (λ (v : ℕ). view_with first log v key.table key.token.value) same ∙ seen_last) in
       let pair : IsPair tablet tablet = (pairs_law first valid.topology log legal_log).same (last_version opening history) key.table key.token tablet seen_last in
       by_quorum tablet tablet pair.kept_now (NewList both both) (pair.spares.both both) (targets ∙ ap writes_of is)
-      (need ∙ ap (λ (t : Tablet). base_need (length t.replicas) + extra (writes (stage_in t))) is) refl
+      (need ∙ ap (λ (t : Tablet). base_need (level_of request.operation) (length t.replicas) + extra (writes (stage_in t))) is) refl
 
   one_before : request.version.0 + 1 ≡ last_version opening history → base_of request tablet ≤ covered_count opening history key cell (chosen_list New tablet)
   one_before same =

@@ -29,7 +29,7 @@ use Rattle.cluster_history.proofs.StayLemmas.{seen_state-other}
 use Rattle.cluster_history.proofs.WithinLemmas.{look_within}
 use Rattle.history_facts.proofs.HostLemmas.{log_legal}
 use Rattle.history_facts.proofs.LegalLemmas.{addressed, taken_by}
-use Rattle.history_facts.proofs.NameLemmas.{same_actor-refl, same_host-refl}
+use Rattle.base_ids.proofs.NameLemmas.{same_actor-refl, same_host-refl}
 use Rattle.topo_ties.specs.TopoTies.{HasTopoInput, IsTopoPlay, ProposalsAreJudged, ToposBegin, ToposHaveInputs, ToposPlay, ToposRestart, ToposStay, heard_input, topo_input, topo_view}
 use Rattle.topo_ties.proofs.RuleLemmas.{same_rule}
 

@@ -1,7 +1,8 @@
 -- How a topology coordinator is tied to a history: what the history says of it as the coordinator's own plain data,
 -- what each event gives it, and what it then does.
 use Rattle.std.specs.Prelude.{List, None, Option, Some, [], false, length, ℕ, ◌∷◌, ◌≡◌, ◌≤◌}
-use Rattle.group0_log.specs.Log.{outcome_of, state_at}
+use Rattle.base_ids.specs.Outcomes.{outcome_of}
+use Rattle.group0_log.specs.Log.{state_at}
 use Rattle.base_ids.specs.declared.ids.Actor.TheVariants.{Topo as ByTopo}
 use Rattle.base_ids.specs.declared.ids.HostId.{HostId}
 use Rattle.base_ids.specs.declared.ids.Session.{Session}

@@ -7,7 +7,7 @@ pub returns-clause-runs : goal.returns-clause-runs
 returns-clause-runs g c =
     let runs = g.S.Store.runs in
     let room = c.make_room.new.self in
+    let before = c.args.self.now in
     λ t.
-    let seen : runs c.self.inside.store t ≡ runs c.regroup.new.self.store t = λ i. runs (c.self.view_is i).store t in
-    let same : runs_with (grouping_of room.core c.args.input) (runs room.store) t ≡ runs_with (grouping_of c.args.self.now.core c.args.input) (runs room.store) t = λ i. runs_with (grouping_of (c.make_room.ensures.core i) c.args.input) (runs room.store) t in
-    seen ∙ c.in_ok-regroup.ensures.ok t ∙ same ∙ runs_with-same (grouping_of c.args.self.now.core c.args.input) (runs c.args.self.now.store) (runs room.store) c.make_room.ensures.runs t
+    let same : runs_with (grouping_of room.core c.args.input) (runs room.store) t ≡ runs_with (grouping_of before.core c.args.input) (runs room.store) t = λ i. runs_with (grouping_of ((c.make_room.ensures.core ∙ c.make.ensures.core) i) c.args.input) (runs room.store) t in
+    c.in_ok-regroup.ensures.ok t ∙ same ∙ runs_with-same (grouping_of before.core c.args.input) (runs before.store) (runs room.store) (λ u. c.make_room.ensures.runs u ∙ c.make.ensures.runs u) t
