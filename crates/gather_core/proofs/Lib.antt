@@ -1,0 +1,10 @@
+pub mod PutManyLemmas
+pub mod SpreadLemmas
+pub mod PlaceLemmas
+pub mod SameCellLemmas
+pub mod QuietLemmas
+pub mod RouteLemmas
+pub mod EndLemmas
+pub mod RoundLemmas
+pub mod ComeLemmas
+pub mod CountLemmas

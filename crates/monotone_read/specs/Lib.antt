@@ -1,0 +1,5 @@
+pub mod Repaired
+pub mod Monotone
+pub mod Notes
+pub mod Lists
+pub mod Kept

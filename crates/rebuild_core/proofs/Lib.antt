@@ -1,0 +1,3 @@
+pub mod RebuildLemmas
+pub mod RunLemmas
+pub mod TabletLemmas

@@ -1,0 +1,3 @@
+pub mod Rebuilds
+pub mod Laws
+pub mod Tablets
