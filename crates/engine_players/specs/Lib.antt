@@ -1,0 +1,4 @@
+pub mod Inputs
+pub mod Steps
+pub mod Coordinators
+pub mod Hosts
