@@ -30,6 +30,3 @@ fn main(rt: HostRuntime) -> ExitCode {
     let outcome = cluster_main(rt.alloc(), &words, &mut source, &mut sink);
     exit_code(&outcome)
 }
-
-#[cfg(test)]
-mod tests;

@@ -4,7 +4,6 @@ use Rattle.command_words.specs.declared.words.Command.{Command}
 use Rattle.command_words.specs.declared.words.Command.TheVariants.{Gen, Play}
 use Rattle.schedule_data.specs.declared.data.Schedule.{Schedule}
 use Rattle.schedule_gen.specs.Schedule.{schedule_text}
-use Rattle.schedule_play.specs.Play.{played}
 use Rattle.schedule_text.proofs.TextLemmas.{never_both, one_fault, one_schedule}
 use Rattle.text_grammar.specs.declared.faults.Fault.{Fault}
 use Rattle.cluster_program.specs.Endings.{Ending, IsCommandEnding, IsGenEnding, IsPlayEnding, IsTextEnding, fault_ending, input_limit, play_ending}
@@ -16,7 +15,7 @@ same_fault_ending n m f g line fault = ap (λ (l : ℕ). fault_ending l f) line 
 
 pub one_text_ending : (form : Form) (text : List ℕ) (one other : Ending) → IsTextEnding form text one → IsTextEnding form text other → one ≡ other
 one_text_ending form text one other (inl (schedule, says, ends)) (inl (again, agrees, too)) =
-    ends ∙ ap (λ (s : Schedule). play_ending form (played s)) (one_schedule text schedule again says agrees) ∙ sym too
+    ends ∙ ap (λ (s : Schedule). play_ending form s) (one_schedule text schedule again says agrees) ∙ sym too
 one_text_ending form text one other (inl (schedule, says, ends)) (inr (line, fault, is, too)) = absurd (never_both text schedule line fault says is)
 one_text_ending form text one other (inr (line, fault, is, ends)) (inl (schedule, says, too)) = absurd (never_both text schedule line fault says is)
 one_text_ending form text one other (inr (line, fault, is, ends)) (inr (place, wrong, also, too)) =

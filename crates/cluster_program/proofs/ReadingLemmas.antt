@@ -1,20 +1,25 @@
 -- What came of a text that was read, and of nothing that is read.
-use Rattle.std.proofs.Common.{Bool, Err, List, None, Ok, Option, Result, Some, [], ap, arith, false, if◌then◌else◌, inl, inr, length, nat_lt, refl, subst, sym, true, ℕ, ◌≡◌, ◌≤◌, ◌⊎◌, ◌∙◌}
+use Rattle.std.proofs.Common.{Bool, Err, List, None, Ok, Option, Result, Some, [], ap, append-nil, arith, false, if◌then◌else◌, inl, inr, length, nat_lt, refl, subst, sym, true, ℕ, ◌≡◌, ◌≤◌, ◌⊎◌, ◌∙◌}
 use Rattle.std.proofs.lemmas.Bool.{le-ltb, ltb-false, ltb-true}
 use Rattle.std.specs.Option.{IfSome}
+use Rattle.cluster_history.specs.declared.data.Journal.{Journal}
 use Rattle.fault_io.specs.Counts.{Rose, SinkAccount, SourceAccount}
 use Rattle.fault_io.specs.Given.{before_left}
+use Rattle.fault_io.specs.Written.{content_after}
 use Rattle.schedule_data.specs.declared.data.Schedule.{Schedule}
-use Rattle.schedule_play.specs.Play.{Stop, played}
+use Rattle.schedule_play.specs.Play.{AtLimit, AtRule, Stop, played}
 use Rattle.schedule_gen.specs.Schedule.{schedule_text}
 use Rattle.schedule_text.specs.Texts.{IsScheduleText, NamesFaults, ReadsTexts, schedule_of}
 use Rattle.text_grammar.specs.Folds.{LineFault}
+use Rattle.text_grammar.specs.declared.faults.Fault.{Fault}
+use Rattle.text_grammar.specs.declared.faults.Fault.TheVariants.{Limit as PassesLimit, Refused as BreaksRule}
 use Rattle.command_words.specs.declared.words.Command.{Command}
 use Rattle.command_words.specs.declared.words.Command.TheVariants.{Gen, Play}
-use Rattle.cluster_program.specs.Endings.{Ending, IsCommandEnding, IsGenEnding, IsPlayEnding, IsTextEnding, ending_at, input_ending, input_limit}
+use Rattle.cluster_program.specs.Endings.{Ending, IsCommandEnding, IsGenEnding, IsPlayEnding, IsTextEnding, ending_at, fault_ending, input_ending, input_limit}
 use Rattle.cluster_program.specs.Readings.{command_ending, ending_of, gen_ending, reading_ending, schedule_reading}
 use Rattle.cluster_program.specs.Outcomes.{Answers, AnswersAs, CameAs, CameTo, IsAnswer, IsAnswerAs, NoFault}
-use Rattle.cluster_program.specs.Program.{IsComplete, IsReported}
+use Rattle.cluster_program.specs.Program.{IsComplete, IsReported, IsSummed}
+use Rattle.cluster_program.specs.Texts.{summary_line}
 use Rattle.cluster_program.specs.declared.outcome.Outcome.{Outcome}
 use Rattle.cluster_program.specs.declared.texts.Form.{Form}
 use Rattle.cluster_program.specs.declared.texts.Form.TheVariants.{Report, Summary}
@@ -40,17 +45,17 @@ ending-whole :
     length text ≤ input_limit →
     schedule_reading text ≡ Ok schedule →
     (played schedule).stop ≡ None →
-    ending_of text ≡ ending_at Report (played schedule).journal None
+    ending_of text ≡ ending_at Report schedule (played schedule).journal None
 ending-whole text schedule few read ended =
     let R : Result Schedule LineFault → Ending = λ read. reading_ending Report read in
-    let S : Option Stop → Ending = λ stop. ending_at Report (played schedule).journal stop in
+    let S : Option Stop → Ending = λ stop. ending_at Report schedule (played schedule).journal stop in
     ending-read text few ∙ ap R read ∙ ap S ended
 
 reported :
     (schedule : Schedule) (outcome : Outcome) (s t : SourceAccount) (a b : SinkAccount) →
     (Rose s.faults t.faults → ⊥) →
     (Rose a.faults b.faults → ⊥) →
-    Answers (ending_at Report (played schedule).journal None) outcome s t a b →
+    Answers (ending_at Report schedule (played schedule).journal None) outcome s t a b →
     IsReported schedule outcome a b ⊎ (outcome.status ≡ 8)
 reported schedule outcome s t a b source sink (inl (quiet, inl (inl done))) =
     inl (record { status = done.status; journal = done.journal; written = done.written })
@@ -186,3 +191,56 @@ pub came-asked :
     CameAs (IsCommandEnding asked text) outcome a b
 came-asked asked wanted text outcome a b is came =
     subst (λ (o : Option Command). CameAs (IsCommandEnding o text) outcome a b) (sym is) came
+
+-- ---- the summary
+
+-- only a play that came to its end has the status 0
+summed-at :
+    (n : ℕ) (schedule : Schedule) (journal : Journal) (stop : Option Stop) (outcome : Outcome) (a b : SinkAccount) →
+    CameTo (ending_at (Summary n) schedule journal stop) outcome a b →
+    outcome.status ≡ 0 →
+    b.content ≡ content_after a.content (summary_line n schedule outcome.journal)
+summed-at n schedule journal None outcome a b (inl (inl done)) zero =
+    done.written
+    ∙ ap (λ l. content_after a.content l) (append-nil (summary_line n schedule journal))
+    ∙ ap (λ j. content_after a.content (summary_line n schedule j)) (sym done.journal)
+summed-at n schedule journal (Some (AtRule line rule)) outcome a b (inl (inl done)) zero =
+    let e : 4 ≡ 0 = sym done.status ∙ zero in absurd (omega (arith, e))
+summed-at n schedule journal (Some (AtLimit name)) outcome a b (inl (inl done)) zero =
+    let e : 7 ≡ 0 = sym done.status ∙ zero in absurd (omega (arith, e))
+summed-at n schedule journal stop outcome a b (inl (inr cut)) zero =
+    let e : 6 ≡ 0 = sym cut.status ∙ zero in absurd (omega (arith, e))
+summed-at n schedule journal stop outcome a b (inr starved) zero =
+    let e : 8 ≡ 0 = sym starved.status ∙ zero in absurd (omega (arith, e))
+
+-- a text at fault has another status
+fault-not-done :
+    (line : ℕ) (fault : Fault) (outcome : Outcome) (a b : SinkAccount) →
+    CameTo (fault_ending line fault) outcome a b →
+    outcome.status ≡ 0 → ⊥
+fault-not-done line (BreaksRule rule) outcome a b (inl (inl done)) zero =
+    let e : 3 ≡ 0 = sym done.status ∙ zero in omega (arith, e)
+fault-not-done line (PassesLimit name) outcome a b (inl (inl done)) zero =
+    let e : 7 ≡ 0 = sym done.status ∙ zero in omega (arith, e)
+fault-not-done line fault outcome a b (inl (inr cut)) zero =
+    let e : 6 ≡ 0 = sym cut.status ∙ zero in omega (arith, e)
+fault-not-done line fault outcome a b (inr starved) zero =
+    let e : 8 ≡ 0 = sym starved.status ∙ zero in omega (arith, e)
+
+pub summed :
+    (n : ℕ) (outcome : Outcome) (a b : SinkAccount) →
+    ReadsTexts →
+    CameTo (gen_ending n) outcome a b →
+    outcome.status ≡ 0 →
+    IsSummed n outcome.journal a b
+unfolding schedule_reading
+summed n outcome a b reads came zero = by (schedule_of (schedule_text n)) refl came
+  where
+    by : (read : Result Schedule LineFault) → schedule_of (schedule_text n) ≡ read →
+        CameTo (reading_ending (Summary n) read) outcome a b → IsSummed n outcome.journal a b
+    by (Ok schedule) e it = (
+      schedule,
+      (reads (schedule_text n) schedule).0 e,
+      summed-at n schedule (played schedule).journal (played schedule).stop outcome a b it zero,
+    )
+    by (Err fault) e it = absurd (fault-not-done fault.line fault.fault outcome a b it zero)

@@ -10,7 +10,7 @@ use Rattle.command_words.specs.declared.words.Command.{Command}
 use Rattle.command_words.specs.declared.words.Command.TheVariants.{Gen, Play}
 use Rattle.schedule_data.specs.declared.data.Schedule.{Schedule}
 use Rattle.schedule_gen.specs.Schedule.{schedule_text}
-use Rattle.schedule_play.specs.Play.{AtLimit, AtRule, Played, Stop, played}
+use Rattle.schedule_play.specs.Play.{AtLimit, AtRule, Stop, played}
 use Rattle.schedule_text.specs.Texts.{IsFaultAt, IsScheduleText}
 use Rattle.text_grammar.specs.declared.faults.Fault.{Fault}
 use Rattle.text_grammar.specs.declared.faults.Fault.TheVariants.{Limit as PassesLimit, Refused as BreaksRule}
@@ -63,15 +63,24 @@ abbrev pub stop_status : Stop → Status
 stop_status (AtRule line rule) = NotEnabled
 stop_status (AtLimit name) = Limit
 
--- the play of a schedule came to its end, or stopped
-abbrev pub ending_at : Form → Journal → Option Stop → Ending
-ending_at form journal None = record { status = Done; journal = journal; bytes = concat (form_lines form journal) }
-ending_at form journal (Some stop) =
+-- the play of a schedule came to its end
+abbrev pub whole_ending : Form → Schedule → Journal → Ending
+whole_ending form schedule journal =
+    record { status = Done; journal = journal; bytes = concat (form_lines form schedule journal) }
+
+-- the play stopped, which is told in one form
+abbrev pub stopped_ending : Journal → Stop → Ending
+stopped_ending journal stop =
     record { status = stop_status stop; journal = journal; bytes = concat (stopped_lines journal stop) }
 
+-- the play of a schedule came to its end, or stopped
+abbrev pub ending_at : Form → Schedule → Journal → Option Stop → Ending
+ending_at form schedule journal None = whole_ending form schedule journal
+ending_at form schedule journal (Some stop) = stopped_ending journal stop
+
 -- how the play of a schedule is to end
-abbrev pub play_ending : Form → Played → Ending
-play_ending form whole = ending_at form whole.journal whole.stop
+abbrev pub play_ending : Form → Schedule → Ending
+play_ending form schedule = ending_at form schedule (played schedule).journal (played schedule).stop
 
 -- ---- the commands
 
@@ -82,7 +91,7 @@ input_limit = 4194304
 -- how a text is to end: the schedule that it says is played, or its first line at fault is told
 abbrev pub IsTextEnding : Form → List ℕ → Ending → Type 0
 IsTextEnding form text ending =
-    ((schedule : Schedule) × IsScheduleText text schedule × (ending ≡ play_ending form (played schedule)))
+    ((schedule : Schedule) × IsScheduleText text schedule × (ending ≡ play_ending form schedule))
     ⊎ ((line : ℕ) × (fault : Fault) × IsFaultAt text line fault × (ending ≡ fault_ending line fault))
 
 -- how `play` is to end on a text: more bytes came than are read, or else as the text says

@@ -5,7 +5,6 @@ use Rattle.command_words.specs.declared.words.Command.{Command}
 use Rattle.command_words.specs.declared.words.Command.TheVariants.{Gen, Play}
 use Rattle.schedule_data.specs.declared.data.Schedule.{Schedule}
 use Rattle.schedule_gen.specs.Schedule.{schedule_text}
-use Rattle.schedule_play.specs.Play.{played}
 use Rattle.schedule_text.specs.Texts.{schedule_of}
 use Rattle.text_grammar.specs.Folds.{LineFault}
 use Rattle.cluster_program.specs.Endings.{Ending, fault_ending, input_ending, input_limit, play_ending, usage_ending}
@@ -18,7 +17,7 @@ schedule_reading text = schedule_of text
 
 -- what was read is played, or told
 abbrev pub reading_ending : Form → Result Schedule LineFault → Ending
-reading_ending form (Ok schedule) = play_ending form (played schedule)
+reading_ending form (Ok schedule) = play_ending form schedule
 reading_ending form (Err fault) = fault_ending fault.line fault.fault
 
 -- the ending of `play` on a text

@@ -4,21 +4,22 @@ use Rattle.std.specs.List.{count_by}
 use Rattle.std.specs.Prelude.{Bool, List, None, [], codes, false, length, true, ℕ, ◌++◌, ◌∷◌}
 use Rattle.base_ids.specs.Rules.{event_rule_word, limit_word}
 use Rattle.base_ids.specs.declared.ids.Version.{Version}
-use Rattle.base_ids.specs.declared.rules.Appended.TheVariants.{Accepted}
 use Rattle.base_ids.specs.declared.rules.EventRule.{EventRule}
 use Rattle.base_ids.specs.declared.rules.LimitName.{LimitName}
 use Rattle.cluster_history.specs.Legal.{history_of}
 use Rattle.cluster_history.specs.Topology.{last_state, log_of}
-use Rattle.cluster_history.specs.declared.data.Entry.{Entry}
-use Rattle.cluster_history.specs.declared.data.Event.{Event}
-use Rattle.cluster_history.specs.declared.data.Event.TheVariants.{Propose}
 use Rattle.cluster_history.specs.declared.data.Journal.{Journal}
-use Rattle.cluster_history.specs.declared.data.Output.{Output}
-use Rattle.cluster_history.specs.declared.data.Output.TheVariants.{Proposed}
 use Rattle.report_text.specs.Report.{reply_count, report, report_lines}
+use Rattle.schedule_data.specs.declared.data.LineAct.{LineAct}
+use Rattle.schedule_data.specs.declared.data.LineAct.TheVariants.{Event, Short}
+use Rattle.schedule_data.specs.declared.data.LineEvent.TheVariants.{Propose}
+use Rattle.schedule_data.specs.declared.data.SchedLine.{SchedLine}
+use Rattle.schedule_data.specs.declared.data.Schedule.{Schedule}
+use Rattle.schedule_data.specs.declared.data.Shorthand.TheVariants.{Force, Step}
 use Rattle.schedule_play.specs.Play.{Stop, AtLimit, AtRule}
 use Rattle.text_grammar.specs.Rules.{text_rule_word}
 use Rattle.text_grammar.specs.declared.faults.TextRule.{TextRule}
+use Rattle.topo_state.specs.declared.command.Command.{Command}
 use Rattle.topo_state.specs.declared.command.Command.TheVariants.{Advance}
 use Rattle.cluster_program.specs.declared.texts.Form.{Form}
 use Rattle.cluster_program.specs.declared.texts.Form.TheVariants.{Report, Summary}
@@ -55,21 +56,28 @@ stopped_lines journal stop = report_lines journal ++ stop_line stop ∷ []
 
 -- ---- the summary of a made schedule's play
 
--- the log accepted the end of a move
-abbrev pub is_move_end : Event → List Output → Bool
-is_move_end (Propose topo (Advance session None)) (Proposed (Accepted index) ∷ outputs) = true
-is_move_end event outputs = false
+-- the command is the end of a move: `advance S none`
+unfoldable pub is_move_end : Command → Bool
+is_move_end (Advance session None) = true
+is_move_end command = false
 
--- the entry is the end of a move
-unfoldable pub ends_move : Entry → Bool
-ends_move entry = is_move_end entry.event entry.outputs
+-- what a line says has the end of a move for its command
+unfoldable pub says_move_end : LineAct → Bool
+says_move_end (Event (Propose topo command)) = is_move_end command
+says_move_end (Short (Step topo command)) = is_move_end command
+says_move_end (Short (Force topo command)) = is_move_end command
+says_move_end act = false
 
--- how many moves came to their end
-abbrev pub moved_count : Journal → ℕ
-moved_count journal = count_by ends_move journal.entries
+-- the line ends a move
+unfoldable pub ends_move : SchedLine → Bool
+ends_move line = says_move_end line.act
+
+-- how many lines of the schedule end a move
+abbrev pub moved_count : Schedule → ℕ
+moved_count schedule = count_by ends_move schedule.lines
 
 -- the number of the schedule, and the counts of entries, replies and commands, the version and the fence of the log's
--- state, and the count of moves
+-- state, and the count of lines that end a move
 abbrev pub counts_line : ℕ → ℕ → ℕ → ℕ → Version → Version → ℕ → List ℕ
 counts_line n events replies log version fence moved =
     codes "gen "
@@ -81,9 +89,9 @@ counts_line n events replies log version fence moved =
     ++ (codes " fence " ++ (decimal fence.0
     ++ (codes " moved " ++ (decimal moved ++ codes "\n")))))))))))))
 
--- the line that sums up the play of a number's schedule
-abbrev pub summary_line : ℕ → Journal → List ℕ
-summary_line n journal =
+-- the line that sums up the play of a number's schedule: what came of it is in the journal
+abbrev pub summary_line : ℕ → Schedule → Journal → List ℕ
+summary_line n schedule journal =
     counts_line
     n
     (length journal.entries)
@@ -91,11 +99,11 @@ summary_line n journal =
     (length (log_of (history_of journal)))
     (last_state journal.opening (history_of journal)).version
     (last_state journal.opening (history_of journal)).fence
-    (moved_count journal)
+    (moved_count schedule)
 
 -- ---- a play that came to its end
 
 -- what is written of it
-abbrev pub form_lines : Form → Journal → List (List ℕ)
-form_lines Report journal = report journal
-form_lines (Summary n) journal = summary_line n journal ∷ []
+abbrev pub form_lines : Form → Schedule → Journal → List (List ℕ)
+form_lines Report schedule journal = report journal
+form_lines (Summary n) schedule journal = summary_line n schedule journal ∷ []

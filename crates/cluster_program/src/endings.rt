@@ -4,7 +4,7 @@ ghost use Rattle.std.specs.List.{concat};
 ghost use Rattle.fault_io.specs.Counts.{Rose};
 ghost use Rattle.fault_io.specs.Written.{AddsPart, content_after};
 ghost use Rattle.schedule_play.specs.Play.{AtLimit, AtRule};
-ghost use Rattle.cluster_program.specs.Endings.{early, ending_at, no_journal, usage_ending};
+ghost use Rattle.cluster_program.specs.Endings.{early, no_journal, stopped_ending, usage_ending, whole_ending};
 ghost use Rattle.cluster_program.specs.Outcomes.{CameTo, CameToError, CameToFault, IsSaidOrCut};
 ghost use Rattle.cluster_program.specs.Texts.{limit_line, refused_line};
 
@@ -14,6 +14,7 @@ use crate::texts::{Form, form_lines, limit_line, lines_to_limit, lines_to_rule, 
 use base_ids::{EventRule, LimitName, Line, NoMemory};
 use cluster_history::Journal;
 use fault_io::{ReadError, Sink, WriteFault, write_all};
+use schedule_data::Schedule;
 use schedule_text::ParseError;
 use std::alloc::Global;
 use text_grammar::TextRule;
@@ -55,33 +56,34 @@ fn finish<K: Sink>(sink: &mut K, lines: &[Line], status: Status, journal: Journa
     ended(status, journal, written)
 }
 
-/// Writes what is wanted of a play that came to its end.
+/// Writes what is wanted of a schedule's play that came to its end.
 pub(crate) fn tell_whole<K: Sink>(
     alloc: Global,
     form: Form,
+    schedule: &Schedule,
     journal: Journal,
     sink: &mut K,
 ) -> Outcome
-    ensures came { CameTo (ending_at form journal None) result (K.account sink.old) (K.account sink.new) }
+    ensures came { CameTo (whole_ending form schedule.now journal) result
+        (K.account sink.old) (K.account sink.new) }
     ensures journal { result.journal ≡ journal }
     ensures later { (K.account sink.old).faults ≤ (K.account sink.new).faults }
 {
-    match form_lines(alloc, form, &journal) {
+    match form_lines(alloc, form, schedule, &journal) {
         Ok(lines) => finish(sink, lines.as_slice(), Status::Done, journal),
         Err(NoMemory) => starved(journal),
     }
 }
 
-/// Writes the report of a play that stopped at an event that is not enabled, in whatever form it was to be told.
+/// Writes the report of a play that stopped at an event that is not enabled.
 pub(crate) fn tell_rule<K: Sink>(
     alloc: Global,
-    form: Form,
     journal: Journal,
     line: u64,
     rule: EventRule,
     sink: &mut K,
 ) -> Outcome
-    ensures came { CameTo (ending_at form journal (Some (AtRule line rule))) result
+    ensures came { CameTo (stopped_ending journal (AtRule line rule)) result
         (K.account sink.old) (K.account sink.new) }
     ensures journal { result.journal ≡ journal }
     ensures later { (K.account sink.old).faults ≤ (K.account sink.new).faults }
@@ -92,15 +94,14 @@ pub(crate) fn tell_rule<K: Sink>(
     }
 }
 
-/// Writes the report of a play that stopped at a limit, in whatever form it was to be told.
+/// Writes the report of a play that stopped at a limit.
 pub(crate) fn tell_limit<K: Sink>(
     alloc: Global,
-    form: Form,
     journal: Journal,
     name: LimitName,
     sink: &mut K,
 ) -> Outcome
-    ensures came { CameTo (ending_at form journal (Some (AtLimit name))) result
+    ensures came { CameTo (stopped_ending journal (AtLimit name)) result
         (K.account sink.old) (K.account sink.new) }
     ensures journal { result.journal ≡ journal }
     ensures later { (K.account sink.old).faults ≤ (K.account sink.new).faults }

@@ -39,19 +39,17 @@ fn play_on<K: Sink>(
 ) -> Outcome
     requires playable { IsPlayable schedule.now }
     requires fresh { machine ≡ opening_journal schedule.now.opening }
-    ensures came { CameTo (play_ending form (played schedule.now)) result (K.account sink.old) (K.account sink.new) }
+    ensures came { CameTo (play_ending form schedule.now) result (K.account sink.old) (K.account sink.new) }
     ensures front { IsFrontOf result.journal (played schedule.now).journal }
     ensures legal { IsLegalRun result.journal }
     ensures later { (K.account sink.old).faults ≤ (K.account sink.new).faults }
 {
     match play(alloc, schedule, &mut machine) {
-        Ok(()) => tell_whole(alloc, form, machine.into_journal(), sink),
+        Ok(()) => tell_whole(alloc, form, schedule, machine.into_journal(), sink),
         Err(PlayError::NotEnabled { line, rule }) => {
-            tell_rule(alloc, form, machine.into_journal(), line, rule, sink)
+            tell_rule(alloc, machine.into_journal(), line, rule, sink)
         }
-        Err(PlayError::Limit { name }) => {
-            tell_limit(alloc, form, machine.into_journal(), name, sink)
-        }
+        Err(PlayError::Limit { name }) => { tell_limit(alloc, machine.into_journal(), name, sink) }
         Err(PlayError::NoMemory) => starved(machine.into_journal()),
     }
 }
@@ -59,7 +57,7 @@ fn play_on<K: Sink>(
 /// Plays a schedule and writes what came of it.
 fn play_schedule<K: Sink>(alloc: Global, form: Form, schedule: &Schedule, sink: &mut K) -> Outcome
     requires { IsPlayable schedule.now }
-    ensures came { CameTo (play_ending form (played schedule.now)) result (K.account sink.old) (K.account sink.new) }
+    ensures came { CameTo (play_ending form schedule.now) result (K.account sink.old) (K.account sink.new) }
     ensures legal { IsLegalRun result.journal }
     ensures later { (K.account sink.old).faults ≤ (K.account sink.new).faults }
 {

@@ -10,8 +10,7 @@ ghost use Rattle.overlap_law.specs.Headline.{IsHeadline};
 ghost use Rattle.report_text.specs.Report.{report};
 ghost use Rattle.cluster_program.specs.Endings.{IsCommandEnding, IsGenEnding, IsPlayEnding, usage_ending};
 ghost use Rattle.cluster_program.specs.Outcomes.{AnswersAs, CameAs, IsAnswerAs, IsSaidOrCut, NoFault};
-ghost use Rattle.cluster_program.specs.Program.{IsComplete};
-ghost use Rattle.cluster_program.specs.Texts.{summary_line};
+ghost use Rattle.cluster_program.specs.Program.{IsComplete, IsSummed};
 
 use crate::endings::{not_read, say_usage};
 use crate::outcome::{Outcome, no_journal, starved};
@@ -94,8 +93,7 @@ pub fn gen_main<K: Sink>(alloc: Global, n: u64, sink: &mut K) -> Outcome
     ensures came { CameAs (IsGenEnding n) result (K.account sink.old) (K.account sink.new) }
 
     // What follows of the statuses 0, 5 and 6.
-    ensures summary { result.status ≡ 0 →
-        (K.account sink.new).content ≡ content_after (K.account sink.old).content (summary_line n result.journal) }
+    ensures summary { result.status ≡ 0 → IsSummed n result.journal (K.account sink.old) (K.account sink.new) }
     ensures quiet { result.status ≡ 0 → (K.account sink.new).faults ≡ (K.account sink.old).faults }
     ensures unread { result.status ≢ 5 }
     ensures write_fault { result.status ≡ 6 → Rose (K.account sink.old).faults (K.account sink.new).faults }
@@ -162,7 +160,7 @@ pub fn cluster_main<S: Source, K: Sink>(
     ensures report { asked_command words.now ≡ Some Play → result.status ≡ 0 →
         (K.account sink.new).content ≡ content_after (K.account sink.old).content (concat (report result.journal)) }
     ensures summary { (n : ℕ) → asked_command words.now ≡ Some (Gen n) → result.status ≡ 0 →
-        (K.account sink.new).content ≡ content_after (K.account sink.old).content (summary_line n result.journal) }
+        IsSummed n result.journal (K.account sink.old) (K.account sink.new) }
     ensures ended { asked_command words.now ≡ Some Play → result.status ≡ 0 →
         IfSome (S.account source.new).left (λ rest. rest ≡ []) }
     ensures quiet { result.status ≡ 0 → NoFault (S.account source.old) (S.account source.new)

@@ -2,11 +2,12 @@
 ghost use Rattle.std.specs.Prelude.{◌≡◌, ◌++◌, ◌∷◌, [], IfOk};
 ghost use Rattle.report_text.specs.Report.{report_lines};
 ghost use Rattle.schedule_play.specs.Play.{AtLimit, AtRule};
-ghost use Rattle.cluster_program.specs.Texts.{counts_line, ends_move, form_lines, is_move_end, limit_line, moved_count, not_enabled_line, refused_line, stopped_lines, summary_line};
+ghost use Rattle.cluster_program.specs.Texts.{counts_line, ends_move, form_lines, is_move_end, limit_line, moved_count, not_enabled_line, refused_line, says_move_end, stopped_lines, summary_line};
 
-use base_ids::{Appended, EventRule, Items, LimitName, Line, NoMemory};
-use cluster_history::{Entry, Event, Journal, Output};
+use base_ids::{EventRule, Items, LimitName, Line, NoMemory};
+use cluster_history::Journal;
 use report_text::{LineList, Tally, end_tally, lines, report_lines};
+use schedule_data::{LineAct, LineEvent, SchedLine, Schedule, Shorthand};
 use std::alloc::Global;
 use text_grammar::TextRule;
 use topo_state::Command;
@@ -81,30 +82,45 @@ pub(crate) fn lines_to_limit(
     lines_and(alloc, journal, last)
 }
 
-/// Whether the log accepted the end of a move by this entry.
-#[tactic(auto, unfolding(crate::specs::Texts::ends_move))]
-fn ends_move(entry: &Entry) -> bool
-    ensures { result ≡ ends_move entry.now }
+/// Whether the command is the end of a move.
+#[tactic(auto, unfolding(crate::specs::Texts::is_move_end))]
+fn is_move_end(command: &Command) -> bool
+    ensures { result ≡ is_move_end command.now }
 {
-    match (&entry.event, entry.outputs.as_slice()) {
-        (
-            Event::Propose {
-                command: Command::Advance { to: None, .. },
-                ..
-            },
-            [Output::Proposed(Appended::Accepted { .. }), ..],
-        ) => true,
+    match command {
+        Command::Advance { to: None, .. } => true,
         _ => false,
     }
 }
 
-/// How many moves came to their end.
-fn moved_count(journal: &Journal) -> usize
-    ensures { result ≡ moved_count journal.now }
+/// Whether what a line says has the end of a move for its command.
+#[tactic(auto, unfolding(crate::specs::Texts::says_move_end))]
+fn says_move_end(act: &LineAct) -> bool
+    ensures { result ≡ says_move_end act.now }
+{
+    match act {
+        LineAct::Event(LineEvent::Propose { command, .. }) => is_move_end(command),
+        LineAct::Short(Shorthand::Step { command, .. }) => is_move_end(command),
+        LineAct::Short(Shorthand::Force { command, .. }) => is_move_end(command),
+        _ => false,
+    }
+}
+
+/// Whether the line ends a move.
+#[tactic(auto, unfolding(crate::specs::Texts::ends_move))]
+fn ends_move(line: &SchedLine) -> bool
+    ensures { result ≡ ends_move line.now }
+{
+    says_move_end(&line.act)
+}
+
+/// How many lines of the schedule end a move.
+fn moved_count(schedule: &Schedule) -> usize
+    ensures { result ≡ moved_count schedule.now }
 {
     let mut moved = 0;
-    for entry in journal.entries.as_slice() {
-        if ends_move(entry) {
+    for line in schedule.lines.as_slice() {
+        if ends_move(line) {
             moved += 1;
         }
     }
@@ -133,23 +149,33 @@ fn counts_line(
 }
 
 /// The line that sums up the play of the made schedule of this number.
-fn summary_line(alloc: Global, n: u64, journal: &Journal) -> Result<Line, NoMemory>
-    ensures { IfOk result (λ text. text ≡ summary_line n journal.now) }
+fn summary_line(
+    alloc: Global,
+    n: u64,
+    schedule: &Schedule,
+    journal: &Journal,
+) -> Result<Line, NoMemory>
+    ensures { IfOk result (λ text. text ≡ summary_line n schedule.now journal.now) }
 {
     let tally = end_tally(alloc, journal)?;
     let events = journal.entries.as_slice().len();
-    counts_line(alloc, n, events, tally, moved_count(journal))
+    counts_line(alloc, n, events, tally, moved_count(schedule))
 }
 
-/// What is written of a play that came to its end.
-pub(crate) fn form_lines(alloc: Global, form: Form, journal: &Journal) -> Result<LineList, NoMemory>
-    ensures { IfOk result (λ lines. lines ≡ form_lines form journal.now) }
+/// What is written of a schedule's play that came to its end.
+pub(crate) fn form_lines(
+    alloc: Global,
+    form: Form,
+    schedule: &Schedule,
+    journal: &Journal,
+) -> Result<LineList, NoMemory>
+    ensures { IfOk result (λ lines. lines ≡ form_lines form schedule.now journal.now) }
 {
     match form {
         Form::Report => lines(alloc, journal),
         Form::Summary(n) => {
             let mut lines = Items::new(alloc);
-            let line = summary_line(alloc, n, journal)?;
+            let line = summary_line(alloc, n, schedule, journal)?;
             lines.push(line)?;
             Ok(lines)
         }

@@ -1,9 +1,8 @@
 -- The report of a journal: replies, what became of proposals, pulls that are done, and what cleanups came to, one on a
 -- line and ordered as the journal has them; a last line counts.
-use Rattle.std.specs.Fmt.{decimal, signed_decimal}
+use Rattle.std.specs.Fmt.{decimal}
 use Rattle.std.specs.List.{count_by, flat_map}
-use Rattle.std.specs.Prelude.{Bool, List, None, Option, Some, [], codes, false, if◌then◌else◌, length, option_to_list, true, ℕ, ℤ, ◌++◌, ◌+◌, ◌∷◌}
-use Rattle.hex.specs.Hex.{encode_lower}
+use Rattle.std.specs.Prelude.{Bool, List, None, Option, Some, [], codes, false, if◌then◌else◌, length, option_to_list, true, ℕ, ◌++◌, ◌+◌, ◌∷◌}
 use Rattle.barrier_core.specs.declared.data.What.{What}
 use Rattle.barrier_core.specs.declared.data.What.TheVariants.{Clean as CleanOf}
 use Rattle.base_ids.specs.declared.ids.HostId.{HostId}
@@ -13,11 +12,10 @@ use Rattle.base_ids.specs.declared.ids.Session.{Session}
 use Rattle.base_ids.specs.declared.ids.Version.{Version}
 use Rattle.base_ids.specs.declared.rules.Appended.{Appended}
 use Rattle.base_ids.specs.declared.rules.Appended.TheVariants.{Accepted, Conflict, Illegal}
-use Rattle.cell_merge.specs.declared.cell.Body.{Body}
-use Rattle.cell_merge.specs.declared.cell.Body.TheVariants.{Dead, Live}
 use Rattle.cell_merge.specs.declared.cell.Cell.{Cell}
 use Rattle.quorum_ops.specs.declared.data.Reply.{Reply}
 use Rattle.quorum_ops.specs.declared.data.Reply.TheVariants.{NoTable, NotMember as NoMember, Ok as Acknowledged, Read as Found, Stale, Timeout as TimedOut}
+use Rattle.schedule_words.specs.Texts.{cell_text}
 use Rattle.stage_graph.specs.declared.kind.Kind.{Kind}
 use Rattle.stage_graph.specs.declared.kind.Kind.TheVariants.{Read as ReadKind, Write as WriteKind}
 use Rattle.topo_state.specs.declared.command.Rule.{Rule}
@@ -36,15 +34,6 @@ use Rattle.cluster_history.specs.declared.data.Output.{Output}
 use Rattle.cluster_history.specs.declared.data.Output.TheVariants.{Proposed, Pulled, Reply as Replied, Sent}
 
 -- ---- replies
-
--- the timestamp of a cell, and its bytes as two lower-case digits each or its time of deletion
-abbrev pub body_text : ℤ → Body → List ℕ
-body_text timestamp (Live bytes) = codes "live:" ++ (signed_decimal timestamp ++ (codes ":" ++ encode_lower bytes))
-body_text timestamp (Dead time) = codes "dead:" ++ (signed_decimal timestamp ++ (codes ":" ++ decimal time))
-
--- a cell: live:TIMESTAMP:HEX or dead:TIMESTAMP:TIME
-abbrev pub cell_text : Cell → List ℕ
-cell_text cell = body_text cell.timestamp cell.body
 
 -- what a read found
 abbrev pub found_text : Option Cell → List ℕ

@@ -7,4 +7,3 @@ mod report;
 mod texts;
 
 pub use report::{LineList, Tally, end_tally, lines, report_lines};
-pub use texts::cell_text;

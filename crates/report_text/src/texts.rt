@@ -1,28 +1,14 @@
 //! The texts of the report's lines.
 ghost use Rattle.std.specs.Prelude.{◌≡◌, IfOk};
 ghost use Rattle.std.specs.String.{string_bytes};
-ghost use Rattle.report_text.specs.Report.{cell_text, result_text, kind_text, request_text, reply_line, rule_word, outcome_text, proposal_line, pull_line, cleaned_line, not_mine_line, end_line};
+ghost use Rattle.report_text.specs.Report.{result_text, kind_text, request_text, reply_line, rule_word, outcome_text, proposal_line, pull_line, cleaned_line, not_mine_line, end_line};
 
 use base_ids::{Appended, HostId, Items, LaneId, Line, NoMemory, OpId, Session, Version};
-use cell_merge::{Body, Cell};
 use quorum_ops::Reply;
+use schedule_words::cell_text;
 use stage_graph::Kind;
 use std::alloc::Global;
 use topo_state::Rule;
-
-/// The text of a cell: `live:TIMESTAMP:HEX` or `dead:TIMESTAMP:TIME`.
-pub fn cell_text(alloc: Global, cell: &Cell) -> Result<String, NoMemory>
-    ensures { IfOk result (λ text. string_bytes text ≡ cell_text cell.now) }
-{
-    let timestamp = cell.timestamp;
-    match &cell.body {
-        Body::Live(bytes) => {
-            let digits = hex::encode(alloc, bytes.as_slice())?;
-            Ok(format!(in alloc; "live:{timestamp}:{digits}")?)
-        }
-        Body::Dead(time) => Ok(format!(in alloc; "dead:{timestamp}:{time}")?),
-    }
-}
 
 /// The text of what a client is told.
 fn result_text(alloc: Global, reply: &Reply) -> Result<String, NoMemory>

@@ -11,12 +11,12 @@ use Rattle.tablet_map.specs.declared.tablet.Tablet.{Tablet}
 use Rattle.tablet_map.specs.declared.tablet.Transition.{Transition}
 use Rattle.topo_state.specs.declared.data.Table.{Table}
 use Rattle.topo_state.specs.declared.data.Resize.{Resize}
-use Rattle.topo_state.specs.State.{is_on_member}
+use Rattle.topo_state.specs.State.{distinct_members, is_on_member}
 use Rattle.topo_state.specs.Rules.{is_bad_resize}
-use Rattle.topo_state.specs.Sound.{IsOnMembers, IsTable, IsTopology}
-use Rattle.topo_state.specs.Openings.{is_still, is_undecided, distinct_members, IsOpening}
+use Rattle.topo_state.specs.Sound.{HasMembers, IsOnMembers, IsTable, IsTopology}
+use Rattle.topo_state.specs.Openings.{is_still, is_undecided, IsOpening}
 use Rattle.cluster_history.specs.Openings.{IsValidOpening, opening_state}
-use Rattle.schedule_header.specs.Header.{Header, host_count, members_of, hosts_under, opening_of}
+use Rattle.schedule_header.specs.Header.{Header, host_count, shard_count, members_of, hosts_under, opening_of}
 use Rattle.schedule_header.specs.Sound.{AreMembers, Ground, ground_of, IsPlaced, IsTableHere, IsSoundHeader}
 use Rattle.schedule_header.proofs.ListLemmas.{member_behind, all_pass}
 use Rattle.schedule_header.proofs.MemberLemmas.{below}
@@ -47,7 +47,7 @@ hosts_within (suc n) =
     let last : HostId = record { 0 = n } in
     All-push (λ (h : HostId). h.0 < suc n) (hosts_under n) last (All-weaker (λ (h : HostId). h.0 < n) (λ (h : HostId). h.0 < suc n) (λ h less. omega arith) (hosts_under n) (hosts_within n)) (omega arith)
 
-all_members : (n : ℕ) → 1 ≤ n → AreMembers n (hosts_under n)
+pub all_members : (n : ℕ) → 1 ≤ n → AreMembers n (hosts_under n)
 all_members n some =
     let count : length (hosts_under n) ≡ n = hosts_length n in
     record { some = omega arith; once = hosts_once n; within = hosts_within n }
@@ -85,35 +85,37 @@ table_there ground t here = record {
 
 -- ---- the opening
 
-sound_topology : (header : Header) → IsSoundHeader header → IsTopology (opening_state (opening_of header))
-sound_topology header sound = record {
+sound_topology : (header : Header) → IsSoundHeader header → HasMembers (opening_state (opening_of header)) → IsTopology (opening_state (opening_of header))
+sound_topology header sound members = record {
+  members = members;
   distinct = sound.distinct;
   few = sound.few;
   tablets = sound.tablets;
   each = λ (id : TableId) (t : Table) e. table_there (ground_of header) t (found_here (IsTableHere (ground_of header)) header.tables id t sound.each e);
 }
 
-is_opening : (header : Header) → IsSoundHeader header → (1 ≤ host_count header) × (host_count header ≤ 64) → IsOpening (opening_state (opening_of header))
+is_opening : (header : Header) → IsSoundHeader header → (1 ≤ host_count header) × (host_count header ≤ 256) → IsOpening (opening_state (opening_of header))
 is_opening header sound hosts =
     let ground = ground_of header in
     let members : AreMembers (host_count header) (members_of header) = said_or (AreMembers (host_count header)) header.members (hosts_under (host_count header)) sound.members (all_members (host_count header) hosts.0) in
+    let shards : (1 ≤ shard_count header) × (shard_count header ≤ 16) = said_or (λ (n : ℕ). (1 ≤ n) × (n ≤ 16)) header.shards 1 sound.shards (omega arith, omega arith) in
     record {
       version = refl;
       fence = refl;
       before = refl;
       hosts = hosts;
-      shards = said_or (λ (n : ℕ). (1 ≤ n) × (n ≤ 16)) header.shards 1 sound.shards (omega arith, omega arith);
+      shards = shards;
       some = members.some;
       once = members.once;
       within = members.within;
       known = all_pass (IsTableHere ground) _ (λ t here. all_pass (IsPlaced ground) _ (λ x placed. placed.replicas.known) t.map.list here.tablets) header.tables sound.each;
       still = all_pass (IsTableHere ground) _ (λ t here. all_pass (IsPlaced ground) is_still (still_there ground) t.map.list here.tablets) header.tables sound.each;
       undecided = all_pass (IsTableHere ground) is_undecided (undecided_there ground) header.tables sound.each;
-      sound = sound_topology header sound;
+      sound = sound_topology header sound (record { shards = shards.0; once = members.once; within = members.within });
     }
 
 pub valid : (header : Header) → IsSoundHeader header → is_some header.hosts ≡ true → is_some header.lanes ≡ true → IsValidOpening (opening_of header)
 valid header sound hosts lanes = record {
   lanes = said_so (λ (n : ℕ). (1 ≤ n) × (n ≤ 4)) header.lanes 0 sound.lanes lanes;
-  topology = is_opening header sound (said_so (λ (n : ℕ). (1 ≤ n) × (n ≤ 64)) header.hosts 0 sound.hosts hosts);
+  topology = is_opening header sound (said_so (λ (n : ℕ). (1 ≤ n) × (n ≤ 256)) header.hosts 0 sound.hosts hosts);
 }

@@ -1,6 +1,6 @@
 -- The forms of the lines of a header. Inside a word the spelling comes first, then the fit of the type, then a limit,
 -- then the other rules; but the limit on tables comes after the rule on a table that is named twice.
-use Rattle.std.specs.Prelude.{ℕ, ◌+◌, ◌^◌, ◌&&◌, nat_lt, nat_le, Bool, false, not, List, [], ◌∷◌, length, Option, Some, None, is_some, Result, Err, codes}
+use Rattle.std.specs.Prelude.{ℕ, ◌+◌, ◌^◌, ◌&&◌, nat_lt, nat_le, Bool, not, List, [], ◌∷◌, length, Option, Some, None, is_some, Result, Err, codes, if◌then◌else◌}
 use Rattle.std.specs.Str.{bytes_eq}
 use Rattle.base_ids.specs.Replicas.{has_host}
 use Rattle.base_ids.specs.declared.ids.HostId.{HostId}
@@ -20,7 +20,9 @@ use Rattle.text_grammar.specs.Shapes.{Place, Known, Judged, Shape, End, Word, Ea
 use Rattle.text_grammar.specs.Readings.{or_rule, ◌>>=◌}
 use Rattle.text_grammar.specs.Judging.{if_so, if_within}
 use Rattle.schedule_words.specs.Places.{number, host, log2, table_number, tablet_number, next_replica}
-use Rattle.schedule_words.specs.Words.{header_word}
+use Rattle.schedule_words.specs.Words.{header_word, meaning}
+use Rattle.schedule_words.specs.declared.counts.Format.{Format}
+use Rattle.schedule_words.specs.declared.counts.Format.TheVariants.{One as FirstFormat, Two as SecondFormat}
 use Rattle.schedule_words.specs.declared.verbs.HeaderVerb.{HeaderVerb}
 use Rattle.schedule_words.specs.declared.verbs.HeaderVerb.TheVariants.{Tablets as TabletsWord, Hosts as HostsWord, Lanes as LanesWord, Shards as ShardsWord, Members as MembersWord, Table as TableWord, Tablet as TabletWord, Go as GoWord}
 use Rattle.schedule_header.specs.Header.{Header, Said, SaidHosts, SaidLanes, SaidShards, SaidMembers, SaidTable, SaidTablet, SaidGo, TabletLine, host_count, shard_count, members_of, may_stand, is_placed}
@@ -107,10 +109,15 @@ tablet_line header =
 
 -- ---- lines
 
+-- so many hosts there may be
+abbrev pub most_hosts : Format → ℕ
+most_hosts FirstFormat = 64
+most_hosts SecondFormat = 256
+
 -- what stands behind the first word of a line
 abbrev pub line_by : Header → HeaderVerb → Shape Said
 line_by header TabletsWord = Whole (λ _. Err (Refused BadHeader))
-line_by header HostsWord = Made (count_line (2 ^ 16) 64 Hosts) SaidHosts
+line_by header HostsWord = Made (count_line (2 ^ 16) (most_hosts header.format) Hosts) SaidHosts
 line_by header LanesWord = Made (count_line (2 ^ 8) 4 Lanes) SaidLanes
 line_by header ShardsWord = Made (count_line (2 ^ 8) 16 Shards) SaidShards
 line_by header MembersWord = Made (members_line (host_count header)) SaidMembers
@@ -133,7 +140,11 @@ header_line header = Word (Known (first_word header)) (line_by header)
 
 -- ---- the first line
 
--- the words are `tablets 1`
-abbrev pub is_first : List (List ℕ) → Bool
-is_first (word ∷ version ∷ []) = bytes_eq word (codes "tablets") && bytes_eq version (codes "1")
-is_first words = false
+-- the words of the formats, and which of them a word is
+abbrev pub format_word : List ℕ → Option Format
+format_word word = meaning ((codes "1", FirstFormat) ∷ (codes "2", SecondFormat) ∷ []) word
+
+-- the words are `tablets` and a format
+abbrev pub format_of : List (List ℕ) → Option Format
+format_of (word ∷ version ∷ []) = if bytes_eq word (codes "tablets") then format_word version else None
+format_of words = None

@@ -10,6 +10,7 @@ use Rattle.tablet_map.specs.Calls.{at_rest, with_tablet}
 use Rattle.topo_state.specs.declared.data.Table.{Table}
 use Rattle.cluster_history.specs.declared.data.Opening.{Opening}
 use Rattle.schedule_words.specs.Words.{is_empty}
+use Rattle.schedule_words.specs.declared.counts.Format.{Format}
 use Rattle.schedule_words.specs.declared.verbs.HeaderVerb.{HeaderVerb}
 use Rattle.schedule_words.specs.declared.verbs.HeaderVerb.TheVariants.{Tablets as TabletsWord, Hosts as HostsWord, Lanes as LanesWord, Shards as ShardsWord, Members as MembersWord, Table as TableWord, Tablet as TabletWord, Go as GoWord}
 
@@ -29,8 +30,9 @@ pub data Said : Type 0 where
   SaidTablet : TabletLine → Said
   SaidGo : Said
 
--- what the header has said so far, and which tablets have had a line of their own
+-- what the header has said so far in this format, and which tablets have had a line of their own
 pub record Header : Type 0 where
+  pub format : Format
   pub hosts : Option ℕ
   pub lanes : Option ℕ
   pub shards : Option ℕ
@@ -38,9 +40,18 @@ pub record Header : Type 0 where
   pub tables : List Table
   pub placed : List (TableId × TabletId)
 
--- nothing is said yet
-abbrev pub no_header : Header
-no_header = record { hosts = None; lanes = None; shards = None; members = None; tables = []; placed = [] }
+-- nothing is said yet but the format
+abbrev pub no_header : Format → Header
+no_header format =
+    record {
+      format = format;
+      hosts = None;
+      lanes = None;
+      shards = None;
+      members = None;
+      tables = [];
+      placed = [];
+    }
 
 -- ---- the opening
 

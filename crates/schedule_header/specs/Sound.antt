@@ -7,9 +7,8 @@ use Rattle.tablet_map.specs.Replicas.{IsReplicaSet}
 use Rattle.tablet_map.specs.Tablets.{IsMap, tablet_in}
 use Rattle.tablet_map.specs.declared.tablet.Tablet.{Tablet}
 use Rattle.topo_state.specs.declared.data.Table.{Table}
-use Rattle.topo_state.specs.State.{is_on_member}
+use Rattle.topo_state.specs.State.{distinct_members, is_on_member}
 use Rattle.topo_state.specs.Tables.{table_in, have_distinct_ids, tablet_count}
-use Rattle.topo_state.specs.Openings.{distinct_members}
 use Rattle.cluster_history.specs.Openings.{IsValidOpening}
 use Rattle.schedule_header.specs.Header.{Header, Step, More, Opened, TabletLine, no_header, host_count, shard_count, members_of}
 
@@ -51,8 +50,8 @@ pub record IsTableHere (ground : Ground) (table : Table) : Type 0 where
 -- Nothing is said before the count of hosts. Counts are within their limits, members are hosts, and the tables have
 -- distinct numbers, are at most 64 with at most 1024 tablets in all, and stand on members.
 pub record IsSoundHeader (header : Header) : Type 0 where
-  pub first : header.hosts ≡ None → header ≡ no_header
-  pub hosts : IfSome header.hosts (λ n. (1 ≤ n) × (n ≤ 64))
+  pub first : header.hosts ≡ None → header ≡ no_header header.format
+  pub hosts : IfSome header.hosts (λ n. (1 ≤ n) × (n ≤ 256))
   pub lanes : IfSome header.lanes (λ n. (1 ≤ n) × (n ≤ 4))
   pub shards : IfSome header.shards (λ n. (1 ≤ n) × (n ≤ 16))
   pub members : IfSome header.members (AreMembers (host_count header))

@@ -4,7 +4,7 @@ ghost use Rattle.text_grammar.specs.Cuts.{words_of};
 ghost use Rattle.text_grammar.specs.Readings.{reading};
 ghost use Rattle.text_grammar.specs.Results.{Gives};
 ghost use Rattle.schedule_header.specs.Header.{no_header, is_before_members, may_stand, opening_of};
-ghost use Rattle.schedule_header.specs.Forms.{first_word, is_first};
+ghost use Rattle.schedule_header.specs.Forms.{first_word, format_of, format_word, most_hosts};
 ghost use Rattle.schedule_header.specs.Sound.{IsSoundHeader, IsSoundStep};
 ghost use Rattle.schedule_header.specs.Code.{header_in, step_in, step_by, next_step};
 ghost use Rattle.schedule_words.specs.declared.verbs.HeaderVerb.TheVariants.{Tablet as TabletWord};
@@ -15,15 +15,16 @@ use crate::state::{HeaderState, HeaderStep};
 use crate::tables::{place, table_line, tablet_line};
 use base_ids::{Items, LimitName, NoMemory};
 use cluster_history::Opening;
-use schedule_words::{HeaderVerb, header_word};
+use schedule_words::{Format, HeaderVerb, header_word};
 use std::alloc::Global;
 use text_grammar::{Fault, LineError, TextRule, is_end, next_word, no_word};
 
-/// The header of which nothing is said yet.
-pub fn first_header(alloc: Global) -> HeaderState
-    ensures { header_in result ≡ no_header }
+/// The header of a text of this format, of which nothing else is said yet.
+pub fn first_header(alloc: Global, format: Format) -> HeaderState
+    ensures { header_in result ≡ no_header format }
 {
     HeaderState {
+        format,
         hosts: None,
         lanes: None,
         shards: None,
@@ -33,18 +34,48 @@ pub fn first_header(alloc: Global) -> HeaderState
     }
 }
 
-/// Whether a line is `tablets 1`.
-pub fn is_first(line: &[u8]) -> bool
-    ensures { result ≡ is_first (words_of line.now) }
+/// The format of a word. `None` comes exactly where the word is none.
+fn format_word(word: &[u8]) -> Option<Format>
+    ensures { result ≡ format_word word.now }
+{
+    if word == b"1".as_slice() {
+        Some(Format::One)
+    } else if word == b"2".as_slice() {
+        Some(Format::Two)
+    } else {
+        None
+    }
+}
+
+/// The format that a line names: `tablets 1` or `tablets 2`. `None` comes exactly where it is neither.
+pub fn format_of(line: &[u8]) -> Option<Format>
+    ensures { result ≡ format_of (words_of line.now) }
 {
     match next_word(line) {
-        Err(_) => false,
+        Err(_) => None,
         Ok((first, behind)) => match next_word(behind) {
-            Err(_) => false,
+            Err(_) => None,
             Ok((second, behind)) => {
-                is_end(behind) && (first == b"tablets".as_slice() && second == b"1".as_slice())
+                if !is_end(behind) {
+                    return None;
+                }
+                if first == b"tablets".as_slice() {
+                    format_word(second)
+                } else {
+                    None
+                }
             }
         },
+    }
+}
+
+/// So many hosts there may be.
+fn most_hosts(format: Format) -> u16
+    ensures { result ≡ most_hosts format }
+{
+    match format {
+        Format::One => 64,
+        Format::Two => 256,
     }
 }
 
@@ -142,16 +173,16 @@ fn line_by(
             return Err(LineError::Fault(Fault::Refused(TextRule::BadHeader)));
         }
         HeaderVerb::Hosts => {
-            let hosts = count_line(1 << 16, 64, LimitName::Hosts, words)?;
-            header.hosts = Some(u16::from(hosts));
+            let hosts = count_line(1 << 16, most_hosts(header.format), LimitName::Hosts, words)?;
+            header.hosts = Some(hosts);
         }
         HeaderVerb::Lanes => {
             let lanes = count_line(1 << 8, 4, LimitName::Lanes, words)?;
-            header.lanes = Some(lanes);
+            header.lanes = Some(lanes as u8);
         }
         HeaderVerb::Shards => {
             let shards = count_line(1 << 8, 16, LimitName::Shards, words)?;
-            header.shards = Some(shards);
+            header.shards = Some(shards as u8);
         }
         HeaderVerb::Members => {
             let members = members_line(alloc, header.hosts.unwrap_or(0), words)?;

@@ -1,9 +1,10 @@
 -- Whatever the words of a line are, whom it names is in the opening, what it would create is of a fit size, and it names only
 -- messages of lines that have labels.
-use Rattle.std.proofs.Common.{Bool, List, None, Ok, Option, Result, Some, [], arith, false, length, nat_le, nat_lt, subst, true, ℕ, ◌&&◌, ◌++◌, ◌+◌, ◌<◌, ◌∷◌, ◌≡◌, ◌≤◌}
+use Rattle.std.proofs.Common.{Bool, List, None, Ok, Option, Result, Some, [], arith, false, length, nat_le, nat_lt, subst, true, ℕ, ◌++◌, ◌+◌, ◌<◌, ◌∷◌, ◌≡◌, ◌≤◌}
 use Rattle.std.proofs.lemmas.Bool.Decides.{nat_tests}
 use Rattle.std.proofs.lemmas.Grind.{common_steps}
 use Rattle.barrier_core.specs.declared.data.What.{What}
+use Rattle.base_ids.specs.declared.ids.Actor.TheVariants.{Lane as ByLane}
 use Rattle.base_ids.specs.declared.ids.HostId.{HostId}
 use Rattle.base_ids.specs.declared.ids.LaneId.{LaneId}
 use Rattle.base_ids.specs.declared.ids.Replica.{Replica}
@@ -19,10 +20,13 @@ use Rattle.schedule_data.specs.declared.data.LineEvent.{LineEvent}
 use Rattle.schedule_data.specs.declared.data.LineRef.{LineRef}
 use Rattle.schedule_data.specs.declared.data.SchedLine.{SchedLine}
 use Rattle.schedule_data.specs.declared.data.Shorthand.{Shorthand}
-use Rattle.schedule_lines.specs.Forms.{First, OfEvent, OfLabel, OfShort, act_by, act_form, actor, actor_by, advance, ask, at_version, begin, command, command_by, create, do_form, event, event_by, finalize, host_event, lane_event, host_named, of_command, of_host, of_lane, of_lane_message, of_lane_request, of_message, of_session, of_version, operation, operation_by, read_form, resize, set_fence, short_by, start, topo_event, what, what_by, what_session, what_version, write}
+use Rattle.schedule_lines.specs.Forms.{First, OfEvent, OfLabel, OfShort, act_by, act_form, actor, actor_by, advance, ask, at_version, begin, begin_at, begin_by, begin_with, command, command_by, create, do_at, do_form, event, event_by, finalize, host_event, lane_event, host_named, of_command, of_host, of_lane, of_lane_message, of_lane_request, of_message, of_session, of_version, operation, operation_by, read_form, resize, set_fence, short_by, start, topo_event, what, what_by, what_session, what_version, write}
 use Rattle.schedule_lines.specs.Said.{AreCountsOf, AreLabelsOf, IsSaidAct}
 use Rattle.schedule_lines.specs.declared.verbs.ActorWord.{ActorWord}
 use Rattle.schedule_lines.specs.declared.verbs.ActorWord.TheVariants.{Host as HostWord, Lane as LaneWord, Topo as TopoWord}
+use Rattle.schedule_lines.specs.declared.verbs.Behind.{Behind}
+use Rattle.schedule_lines.specs.declared.verbs.Behind.TheVariants.{At as BehindAt, Level as BehindLevel}
+use Rattle.stage_graph.specs.declared.level.Level.TheVariants.{Quorum}
 use Rattle.schedule_lines.specs.declared.verbs.CommandVerb.{CommandVerb}
 use Rattle.schedule_lines.specs.declared.verbs.CommandVerb.TheVariants.{Advance as AdvanceVerb, Create as CreateVerb, Fence as SetFenceVerb, Finalize as FinalizeVerb, Join as JoinVerb, Leave as LeaveVerb, Resize as ResizeVerb, Start as StartVerb}
 use Rattle.schedule_lines.specs.declared.verbs.EventVerb.{EventVerb}
@@ -150,8 +154,8 @@ unfolding operation write read_form
 operation_tells P more all = λ w verb is. go verb
   where
     go : (verb : OperationVerb) → AllTell P (operation_by more verb)
-    go WriteVerb = λ w t is v k js u c ks. all (Write t k c)
-    go ReadVerb = λ w t is v k js. all (Read t k)
+    go WriteVerb = λ w t is v k js u c ks. all (Write t k c Quorum)
+    go ReadVerb = λ w t is v k js. all (Read t k Quorum)
 
 what_tells : (P : What → Type 0) → ((w : What) → P w) → AllTell P what
 unfolding what what_version what_session
@@ -171,9 +175,13 @@ abbrev IsEventSaid : Opening → List SchedLine → LineEvent → Type 0
 IsEventSaid opening lines e = HasPart opening (line_actor e) × IsFitLine opening (Event e) × NamesEvent lines e
 
 lane_event_said : (opening : Opening) (counts : Counts) (same : AreCountsOf opening counts) (lines : List SchedLine) (labels : LineOf) → AreLabelsOf lines labels → (verb : LaneVerb) → AllTell (IsEventSaid opening lines) (lane_event counts labels verb)
-unfolding begin at_version of_lane_message of_lane_request
+unfolding begin begin_at begin_with at_version of_lane_message of_lane_request
 lane_event_said opening counts same lines labels are BeginVerb = λ w l is.
-    operation_tells (IsEventSaid opening lines) _ (λ op. ((lane_in opening counts same w l is, tt, tt), λ u x js v n ks. (lane_in opening counts same w l is, tt, tt)))
+    operation_tells (IsEventSaid opening lines) _ (λ op. ((lane_in opening counts same w l is, tt, tt), λ u behind js. by_behind l op (lane_in opening counts same w l is) behind))
+  where
+    by_behind : (l : LaneId) (op : Operation) → HasPart opening (ByLane l) → (behind : Behind) → AllTell (IsEventSaid opening lines) (begin_by l op behind)
+    by_behind l op has BehindAt = λ v n ks. (has, tt, tt)
+    by_behind l op has (BehindLevel level) = ((has, tt, tt), λ u x js v n ks. (has, tt, tt))
 lane_event_said opening counts same lines labels are TakeVerb = λ w l is v at js.
     (lane_in opening counts same w l is, tt, reference_among lines labels are v at js)
 lane_event_said opening counts same lines labels are TimeoutVerb = λ w l is v op js. (lane_in opening counts same w l is, tt, tt)
@@ -224,9 +232,9 @@ abbrev IsShortSaid : Opening → Shorthand → Type 0
 IsShortSaid opening s = HasOwner opening s × IsFitLine opening (Short s)
 
 short_said : (opening : Opening) (counts : Counts) (same : AreCountsOf opening counts) (verb : ShortVerb) → AllTell (IsShortSaid opening) (short_by counts verb)
-unfolding do_form of_host of_command of_session
+unfolding do_form do_at of_host of_command of_session
 short_said opening counts same SyncVerb = (tt, tt)
-short_said opening counts same DoVerb = λ w l is. operation_tells (IsShortSaid opening) _ (λ op. (lane_in opening counts same w l is, tt))
+short_said opening counts same DoVerb = λ w l is. operation_tells (IsShortSaid opening) _ (λ op. ((lane_in opening counts same w l is, tt), λ u level js. (lane_in opening counts same w l is, tt)))
 short_said opening counts same DrainVerb = λ w h is. (host_in opening counts same w h is, tt)
 short_said opening counts same FenceVerb = λ w h is. (host_in opening counts same w h is, tt)
 short_said opening counts same StepVerb = λ w h is.

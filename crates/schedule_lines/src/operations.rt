@@ -2,13 +2,15 @@
 ghost use Rattle.std.specs.Prelude.{◌≡◌};
 ghost use Rattle.text_grammar.specs.Cuts.{seen_more, words_of};
 ghost use Rattle.schedule_lines.specs.Code.{operation_at, read_at, write_at};
+ghost use Rattle.schedule_lines.specs.Forms.{with_level};
 
 use crate::verbs::{OperationVerb, operation_word};
 use cluster_history::Operation;
 use schedule_words::{cell, table_number, token};
+use stage_graph::Level;
 use text_grammar::{Fault, TextRule, next_word};
 
-/// What a write says behind its first word, and the words behind it.
+/// What a write at a majority says behind its first word, and the words behind it.
 #[tactic(auto, unfolding(crate::specs::Code::write_at))]
 fn write_at(words: &[u8]) -> Result<(Operation, &[u8]), Fault>
     ensures { seen_more result ≡ write_at (words_of words.now) }
@@ -19,10 +21,19 @@ fn write_at(words: &[u8]) -> Result<(Operation, &[u8]), Fault>
     let token = token(word)?;
     let (word, words) = next_word(words)?;
     let cell = cell(word)?;
-    Ok((Operation::Write { table, token, cell }, words))
+    let level = Level::Quorum;
+    Ok((
+        Operation::Write {
+            table,
+            token,
+            cell,
+            level,
+        },
+        words,
+    ))
 }
 
-/// What a read says behind its first word, and the words behind it.
+/// What a read at a majority says behind its first word, and the words behind it.
 #[tactic(auto, unfolding(crate::specs::Code::read_at))]
 fn read_at(words: &[u8]) -> Result<(Operation, &[u8]), Fault>
     ensures { seen_more result ≡ read_at (words_of words.now) }
@@ -31,10 +42,18 @@ fn read_at(words: &[u8]) -> Result<(Operation, &[u8]), Fault>
     let table = table_number(word)?;
     let (word, words) = next_word(words)?;
     let token = token(word)?;
-    Ok((Operation::Read { table, token }, words))
+    let level = Level::Quorum;
+    Ok((
+        Operation::Read {
+            table,
+            token,
+            level,
+        },
+        words,
+    ))
 }
 
-/// An operation, and the words behind it.
+/// An operation at a majority, and the words behind it.
 #[tactic(auto, unfolding(crate::specs::Code::operation_at))]
 pub fn operation_at(words: &[u8]) -> Result<(Operation, &[u8]), Fault>
     ensures { seen_more result ≡ operation_at (words_of words.now) }
@@ -44,5 +63,29 @@ pub fn operation_at(words: &[u8]) -> Result<(Operation, &[u8]), Fault>
         None => Err(Fault::Refused(TextRule::BadWord)),
         Some(OperationVerb::Write) => write_at(words),
         Some(OperationVerb::Read) => read_at(words),
+    }
+}
+
+/// The operation at another level.
+pub fn with_level(level: Level, operation: Operation) -> Operation
+    ensures { result ≡ with_level level operation }
+{
+    match operation {
+        Operation::Write {
+            table,
+            token,
+            cell,
+            ..
+        } => Operation::Write {
+            table,
+            token,
+            cell,
+            level,
+        },
+        Operation::Read { table, token, .. } => Operation::Read {
+            table,
+            token,
+            level,
+        },
     }
 }

@@ -3,17 +3,38 @@ ghost use Rattle.std.specs.Prelude.{◌≡◌};
 ghost use Rattle.text_grammar.specs.Cuts.{words_of};
 ghost use Rattle.text_grammar.specs.Readings.{reading};
 ghost use Rattle.text_grammar.specs.Results.{Gives};
-ghost use Rattle.schedule_lines.specs.Forms.{do_form, short_by};
+ghost use Rattle.schedule_lines.specs.Forms.{do_at, do_form, short_by};
 
-use crate::operations::operation_at;
+use crate::operations::{operation_at, with_level};
 use crate::parts::{of_command, of_host, of_session};
 use crate::verbs::ShortVerb;
+use base_ids::LaneId;
+use cluster_history::Operation;
 use schedule_data::Shorthand;
-use schedule_words::{Counts, lane};
+use schedule_words::{Counts, Format, lane, level_in};
 use std::alloc::Global;
-use text_grammar::{Fault, LineError, next_word, no_word};
+use text_grammar::{Fault, LineError, TextRule, is_end, next_word, no_word};
 
-/// A request with all that follows, `L OPERATION`.
+/// A request at the level that ends the line, with all that follows.
+#[tactic(auto, unfolding(crate::specs::Forms::do_at))]
+fn do_at(
+    format: Format,
+    lane: LaneId,
+    operation: Operation,
+    words: &[u8],
+) -> Result<Shorthand, Fault>
+    ensures { result ≡ reading (do_at format lane operation) (words_of words.now) }
+{
+    let (word, words) = next_word(words)?;
+    let Some(level) = level_in(format, word) else {
+        return Err(Fault::Refused(TextRule::BadWord));
+    };
+    no_word(words)?;
+    let operation = with_level(level, operation);
+    Ok(Shorthand::Do { lane, operation })
+}
+
+/// A request with all that follows, `L OPERATION`, with a level or without.
 #[tactic(auto, unfolding(crate::specs::Forms::do_form), using(crate::proofs::OperationLemmas::operation_then))]
 fn do_form(counts: &Counts, words: &[u8]) -> Result<Shorthand, Fault>
     ensures { result ≡ reading (do_form counts.now) (words_of words.now) }
@@ -24,8 +45,10 @@ fn do_form(counts: &Counts, words: &[u8]) -> Result<Shorthand, Fault>
         Ok(found) => found,
         Err(fault) => return Err(fault),
     };
-    no_word(words)?;
-    Ok(Shorthand::Do { lane, operation })
+    if is_end(words) {
+        return Ok(Shorthand::Do { lane, operation });
+    }
+    do_at(counts.format, lane, operation, words)
 }
 
 /// A shorthand, by its first word.

@@ -10,7 +10,7 @@ use Rattle.base_ids.specs.declared.ids.Replica.{Replica}
 use Rattle.base_ids.specs.declared.ids.Version.{Version}
 use Rattle.cluster_history.specs.History.{History, entry_at, output_at, output_of}
 use Rattle.cluster_history.specs.Legal.{IsLegalHistory, IsLegalRun, history_of}
-use Rattle.cluster_history.specs.Messages.{key_of, kind_of}
+use Rattle.cluster_history.specs.Messages.{key_of, kind_of, level_of}
 use Rattle.cluster_history.specs.Openings.{HasHost, IsValidOpening, opening_state}
 use Rattle.cluster_history.specs.Outputs.{ask_of}
 use Rattle.cluster_history.specs.Requests.{Route, is_live, next_op, targets_of, way_by, way_in}
@@ -36,6 +36,7 @@ use Rattle.log_law.specs.Laws.{IsSoundView}
 use Rattle.quorum_ops.specs.declared.data.Reply.TheVariants.{NotMember}
 use Rattle.stage_graph.specs.Table.{reads, writes}
 use Rattle.stage_graph.specs.declared.kind.Kind.{Kind}
+use Rattle.stage_graph.specs.declared.level.Level.{Level}
 use Rattle.stage_graph.specs.declared.kind.Kind.TheVariants.{Read as ReadKind, Write as WriteKind}
 use Rattle.tablet_map.specs.declared.tablet.Tablet.{Tablet}
 use Rattle.topo_state.specs.Lists.{stage_in}
@@ -43,8 +44,8 @@ use Rattle.topo_state.specs.State.{Topology, is_member}
 use Rattle.topo_state.specs.Views.{view}
 use Rattle.history_facts.specs.Prefixes.{history_before}
 use Rattle.schedule_play.proofs.MemberLemmas.{member_with}
-use Rattle.schedule_play.specs.Moves.{ask_at, asked_by, asked_in, live_target, target_of}
-use Rattle.schedule_play.specs.declared.moves.Target.{Target}
+use Rattle.schedule_play.specs.Tasks.{ask_at, asked_by, asked_in, live_target, target_of}
+use Rattle.schedule_play.specs.declared.tasks.Target.{Target}
 use Rattle.tablet_map.proofs.Members.{host_of}
 
 -- the host that is asked, if one is, is in the opening
@@ -64,11 +65,11 @@ target_member : (members : List HostId) (kind : Kind) (tablet : Tablet) (to : Re
 target_member members ReadKind tablet to sound is = sound.within (reads (stage_in tablet)) to.host (host_of (targets_of ReadKind tablet) to is)
 target_member members WriteKind tablet to sound is = sound.within (writes (stage_in tablet)) to.host (host_of (targets_of WriteKind tablet) to is)
 
-seen_target : (state : Topology) (kind : Kind) (operation : Operation) (shown : Option Tablet) (route : Route) (to : Replica)
+seen_target : (state : Topology) (kind : Kind) (level : Level) (operation : Operation) (shown : Option Tablet) (route : Route) (to : Replica)
     → ((tablet : Tablet) → shown ≡ Some tablet → IsSoundView state.members tablet)
-    → way_by kind shown ≡ Goes route → has_replica route.targets to ≡ true → is_member state.members to.host ≡ true
-seen_target state kind operation None route to sound goes is = cc goes
-seen_target state kind operation (Some tablet) route to sound goes is =
+    → way_by kind level shown ≡ Goes route → has_replica route.targets to ≡ true → is_member state.members to.host ≡ true
+seen_target state kind level operation None route to sound goes is = cc goes
+seen_target state kind level operation (Some tablet) route to sound goes is =
     let same : targets_of kind tablet ≡ route.targets = cc goes in
     target_member state.members kind tablet to (sound tablet refl) (ap (λ (l : List Replica). has_replica l to) same ∙ is)
 
@@ -77,18 +78,18 @@ state_target : (opening : Opening) (history : History) (host : HostId) (operatio
     → state_of_version opening history version ≡ state → way_in state host operation ≡ Goes route → has_replica route.targets to ≡ true → HasHost opening to.host
 state_target opening history host operation version None route to valid legal found goes is = cc goes
 state_target opening history host operation version (Some state) route to valid legal found goes is =
-    elim (is_member state.members host) as (λ (b : Bool). (if b then way_by (kind_of operation) (view state (key_of operation).table (key_of operation).token.value) else Ends NotMember) ≡ Goes route → HasHost opening to.host) [
+    elim (is_member state.members host) as (λ (b : Bool). (if b then way_by (kind_of operation) (level_of operation) (view state (key_of operation).table (key_of operation).token.value) else Ends NotMember) ≡ Goes route → HasHost opening to.host) [
       | true ↦ λ e.
           let sound = topology_with (opening_state opening) valid.topology.sound (log_of history) legal version.0 state found in
           member_with opening history version state to.host valid legal found
-          (seen_target state (kind_of operation) operation (view state (key_of operation).table (key_of operation).token.value) route to
+          (seen_target state (kind_of operation) (level_of operation) operation (view state (key_of operation).table (key_of operation).token.value) route to
           (λ tablet shown. view_sound state sound.each (key_of operation).table (key_of operation).token tablet shown) e is)
       | false ↦ λ e. cc e
     ] goes
 
 asks_host : (opening : Opening) (lane : LaneId) (op : OpId) (version : Version) (operation : Operation) (to : Replica) → HasHost opening to.host → IsWithin opening (asked_in (ask_of lane op version operation to))
-asks_host opening lane op version (WriteOf table token cell) to has = has
-asks_host opening lane op version (ReadOf table token) to has = has
+asks_host opening lane op version (WriteOf table token cell level) to has = has
+asks_host opening lane op version (ReadOf table token level) to has = has
 
 -- what an event sends asks a host of the opening, if it asks one to serve a request
 sent_within : (opening : Opening) (history : History) (event : Event) (message : Message) → IsValidOpening opening → IsLegalLog (opening_state opening) (log_of history) → Sends opening history event message → IsWithin opening (asked_in message)

@@ -5,12 +5,11 @@ use Rattle.text_grammar.specs.declared.faults.TextRule.{TextRule}
 use Rattle.text_grammar.specs.declared.faults.TextRule.TheVariants.{NoHeader}
 use Rattle.text_grammar.specs.declared.faults.Fault.{Fault}
 use Rattle.text_grammar.specs.declared.faults.Fault.TheVariants.{Refused as RefusedIn, Limit as LimitIn}
-use Rattle.text_grammar.specs.Judging.{if_so}
-use Rattle.text_grammar.specs.Readings.{◌>>=◌, reading}
+use Rattle.text_grammar.specs.Readings.{or_rule, ◌>>=◌, reading}
 use Rattle.text_grammar.specs.Folds.{LineFault, at_line, line_reading}
 use Rattle.schedule_words.specs.Labels.{lines_in}
 use Rattle.schedule_header.specs.Header.{no_header}
-use Rattle.schedule_header.specs.Forms.{is_first}
+use Rattle.schedule_header.specs.Forms.{format_of}
 use Rattle.schedule_header.specs.Code.{header_in, next_step}
 use Rattle.schedule_lines.specs.Forms.{act_form}
 use Rattle.schedule_text.specs.Language.{schedules, Body, State, Nothing, InHeader, InBody, counts_of, state_behind, after_act}
@@ -22,7 +21,8 @@ use Rattle.schedule_text.specs.declared.errors.ParseError.{ParseError}
 use Rattle.schedule_text.specs.declared.errors.ParseError.TheVariants.{Refused, Limit, NoMemory}
 
 abbrev pub body_in : BodyState → Body
-body_in body = record { opening = body.opening; labels = lines_in body.labels; lines = body.lines }
+body_in body =
+    record { format = body.format; opening = body.opening; labels = lines_in body.labels; lines = body.lines }
 
 abbrev pub state_in : CodeState → State
 state_in NothingYet = Nothing
@@ -32,15 +32,16 @@ state_in (BodyYet body) = InBody (body_in body)
 -- ---- what a line makes that is not passed over
 
 abbrev pub first_next : List (List ℕ) → Result State Fault
-first_next words = if_so (is_first words) NoHeader (InHeader no_header)
+first_next words = or_rule NoHeader (format_of words) >>= λ format. Ok (InHeader (no_header format))
 
 abbrev pub act_next : ℕ → Body → List (List ℕ) → Result State Fault
 act_next number body words =
-    reading (act_form (counts_of body.opening) body.labels) words >>= λ said. Ok (InBody (after_act number body said))
+    reading (act_form (counts_of body.format body.opening) body.labels) words >>= λ said.
+    Ok (InBody (after_act number body said))
 
 abbrev pub told_next : ℕ → State → List (List ℕ) → Result State Fault
 told_next number Nothing words = first_next words
-told_next number (InHeader header) words = next_step header words >>= λ step. Ok (state_behind step)
+told_next number (InHeader header) words = next_step header words >>= λ step. Ok (state_behind header.format step)
 told_next number (InBody body) words = act_next number body words
 
 -- what the code has in the end

@@ -7,17 +7,19 @@ use Rattle.schedule_data.specs.declared.data.Schedule.{Schedule}
 use Rattle.text_grammar.specs.declared.faults.TextRule.TheVariants.{NoHeader, NoGo}
 use Rattle.text_grammar.specs.declared.faults.Fault.{Fault}
 use Rattle.text_grammar.specs.declared.faults.Fault.TheVariants.{Refused}
-use Rattle.text_grammar.specs.Judging.{if_so}
+use Rattle.text_grammar.specs.Readings.{or_rule}
 use Rattle.text_grammar.specs.Shapes.{Shape, Made, Whole}
 use Rattle.text_grammar.specs.Lines.{Language}
 use Rattle.schedule_words.specs.Labels.{LineOf, no_labels, after_label}
 use Rattle.schedule_words.specs.declared.counts.Counts.{Counts}
+use Rattle.schedule_words.specs.declared.counts.Format.{Format}
 use Rattle.schedule_header.specs.Header.{Header, no_header, Said as HeaderSaid, Step, More, Opened, step_of}
-use Rattle.schedule_header.specs.Forms.{is_first, header_line}
+use Rattle.schedule_header.specs.Forms.{format_of, header_line}
 use Rattle.schedule_lines.specs.Forms.{act_form}
 
 -- what the lines behind the header have said so far
 pub record Body : Type 0 where
+  pub format : Format
   pub opening : Opening
   pub labels : LineOf
   pub lines : List SchedLine
@@ -30,24 +32,25 @@ pub data State : Type 0 where
 
 -- what a line says: the format, a line of the header, or what is played, with a label where it has one
 pub data LineSaid : Type 0 where
-  SaidFormat : LineSaid
+  SaidFormat : Format → LineSaid
   SaidHeader : HeaderSaid → LineSaid
   SaidAct : Option (List ℕ) × LineAct → LineSaid
 
--- whom a line may name as the one that acts
-abbrev pub counts_of : Opening → Counts
-counts_of opening = record { hosts = opening.hosts; lanes = opening.lanes }
+-- what a line is judged by: its format, and whom it may name as the one that acts
+abbrev pub counts_of : Format → Opening → Counts
+counts_of format opening = record { format = format; hosts = opening.hosts; lanes = opening.lanes }
 
 -- what may stand next
 abbrev pub form_at : State → Shape LineSaid
-form_at Nothing = Whole (λ words. if_so (is_first words) NoHeader SaidFormat)
+form_at Nothing = Made (Whole (λ words. or_rule NoHeader (format_of words))) SaidFormat
 form_at (InHeader header) = Made (header_line header) SaidHeader
-form_at (InBody body) = Made (act_form (counts_of body.opening) body.labels) SaidAct
+form_at (InBody body) = Made (act_form (counts_of body.format body.opening) body.labels) SaidAct
 
--- the state behind a line of the header
-abbrev pub state_behind : Step → State
-state_behind (More header) = InHeader header
-state_behind (Opened opening) = InBody (record { opening = opening; labels = no_labels; lines = [] })
+-- the state behind a line of the header of this format
+abbrev pub state_behind : Format → Step → State
+state_behind format (More header) = InHeader header
+state_behind format (Opened opening) =
+    InBody (record { format = format; opening = opening; labels = no_labels; lines = [] })
 
 -- behind a line of this number that is played
 abbrev pub after_act : ℕ → Body → Option (List ℕ) × LineAct → Body
@@ -59,8 +62,8 @@ after_act number body said =
 
 -- the state behind a line of this number
 abbrev pub after_line : ℕ → State → LineSaid → State
-after_line number Nothing said = InHeader no_header
-after_line number (InHeader header) (SaidHeader said) = state_behind (step_of header said)
+after_line number Nothing (SaidFormat format) = InHeader (no_header format)
+after_line number (InHeader header) (SaidHeader said) = state_behind header.format (step_of header said)
 after_line number (InBody body) (SaidAct said) = InBody (after_act number body said)
 after_line number state said = state
 

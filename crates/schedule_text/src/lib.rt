@@ -8,5 +8,5 @@ mod reader;
 mod state;
 
 pub use errors::ParseError;
-pub use laws::{law_texts_are_read, law_texts_say_one_schedule};
+pub use laws::{law_second_format_says_the_same, law_texts_are_read, law_texts_say_one_schedule};
 pub use reader::parse;

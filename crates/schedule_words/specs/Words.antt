@@ -7,10 +7,14 @@ use Rattle.schedule_words.specs.declared.verbs.BodyKind.{BodyKind}
 use Rattle.schedule_words.specs.declared.verbs.BodyKind.TheVariants.{Dead as DeadWord, Live as LiveWord}
 use Rattle.schedule_words.specs.declared.verbs.HeaderVerb.{HeaderVerb}
 use Rattle.schedule_words.specs.declared.verbs.HeaderVerb.TheVariants.{Go, Hosts, Lanes, Members, Shards, Table, Tablet, Tablets}
+use Rattle.schedule_words.specs.declared.counts.Format.{Format}
+use Rattle.schedule_words.specs.declared.counts.Format.TheVariants.{One as FirstFormat, Two as SecondFormat}
+use Rattle.stage_graph.specs.declared.level.Level.{Level}
+use Rattle.stage_graph.specs.declared.level.Level.TheVariants.{One, Two, Three, Quorum, All}
 use Rattle.stage_graph.specs.declared.stage.Stage.{Stage}
 use Rattle.stage_graph.specs.Rules.{stages}
 use Rattle.stage_graph.specs.Words.{word as stage_word}
-use Rattle.text_grammar.specs.Readings.{parts_of}
+use Rattle.text_grammar.specs.Readings.{cut_at}
 use Rattle.topo_state.specs.declared.data.ResizeKind.{ResizeKind}
 use Rattle.topo_state.specs.declared.data.ResizeKind.TheVariants.{Keep, Merge, Split}
 
@@ -42,6 +46,24 @@ header_word word = meaning header_words word
 -- the words of cells, with a value or deleted
 abbrev pub body_word : List ℕ → Option BodyKind
 body_word word = meaning ((codes "live", LiveWord) ∷ (codes "dead", DeadWord) ∷ []) word
+
+-- the words of levels, and which of them a word is
+abbrev pub level_words : List (List ℕ × Level)
+level_words =
+    (codes "one", One)
+    ∷ (codes "two", Two)
+    ∷ (codes "three", Three)
+    ∷ (codes "quorum", Quorum)
+    ∷ (codes "all", All)
+    ∷ []
+
+abbrev pub level_word : List ℕ → Option Level
+level_word word = meaning level_words word
+
+-- in the first format no word is one
+abbrev pub level_in : Format → List ℕ → Option Level
+level_in FirstFormat word = None
+level_in SecondFormat word = level_word word
 
 -- the words of decisions for a table
 abbrev pub resize_word : List ℕ → Option ResizeKind
@@ -83,4 +105,4 @@ name_of (Some parts) = if is_name parts.0 && is_empty parts.1 then Some parts.0 
 
 -- the name of a word `NAME:`
 abbrev pub label_of : List ℕ → Option (List ℕ)
-label_of word = name_of (parts_of 58 word)
+label_of word = name_of (cut_at 58 word)

@@ -5,20 +5,21 @@ use Rattle.barrier_core.specs.declared.data.What.{What}
 use Rattle.barrier_core.specs.declared.data.What.TheVariants.{Clean as CleanAsk, Done as DoneAsk, Drain as DrainAsk, Fence as FenceAsk, Ready as ReadyAsk}
 use Rattle.base_ids.specs.declared.ids.Actor.{Actor}
 use Rattle.base_ids.specs.declared.ids.Actor.TheVariants.{Host as ByHost, Lane as ByLane, Topo as ByTopo}
+use Rattle.cluster_history.specs.Messages.{level_of}
 use Rattle.cluster_history.specs.declared.data.Event.{Event}
 use Rattle.cluster_history.specs.declared.data.Event.TheVariants.{Answer, Apply, Ask, Begin, Clean, Hear, Look, Propose, Pull, Quiet, Restart, Serve, Take, TakeChunk, Timeout}
 use Rattle.cluster_history.specs.declared.data.Operation.{Operation}
 use Rattle.cluster_history.specs.declared.data.Operation.TheVariants.{Read, Write}
-use Rattle.report_text.specs.Report.{cell_text}
-use Rattle.schedule_write.specs.Words.{spelt_host, spelt_lane, reference_word, replica_word, replica_words, spelt_resize, spelt_target}
+use Rattle.schedule_words.specs.Texts.{cell_text}
+use Rattle.schedule_write.specs.Words.{spelt_host, spelt_lane, spelt_level, reference_word, replica_word, replica_words, spelt_resize, spelt_target}
 use Rattle.topo_state.specs.declared.command.Command.{Command}
 use Rattle.topo_state.specs.declared.command.Command.TheVariants.{Advance, CreateTable, FinalizeResize, Join, Leave, Resize, SetFence, Start}
 
--- what a client asks
+-- what a client asks, without its level
 abbrev pub operation_words : Operation → List (List ℕ)
-operation_words (Write table token cell) =
+operation_words (Write table token cell level) =
     codes "write" ∷ decimal table.0 ∷ signed_decimal token.value ∷ cell_text cell ∷ []
-operation_words (Read table token) = codes "read" ∷ decimal table.0 ∷ signed_decimal token.value ∷ []
+operation_words (Read table token level) = codes "read" ∷ decimal table.0 ∷ signed_decimal token.value ∷ []
 
 -- what a coordinator asks
 abbrev pub spelt_what : What → List (List ℕ)
@@ -46,10 +47,11 @@ actor_words (ByHost host) = codes "host" ∷ spelt_host host ∷ []
 actor_words (ByLane lane) = codes "lane" ∷ spelt_lane lane ∷ []
 actor_words (ByTopo topo) = codes "topo" ∷ spelt_host topo ∷ []
 
--- an event; a begin always with its version, and messages by the numbers of their events
+-- an event; a begin always with its level and its version, and messages by the numbers of their events
 abbrev pub event_words : Event → List (List ℕ)
 event_words (Begin lane operation version) =
-    codes "begin" ∷ spelt_lane lane ∷ (operation_words operation ++ codes "at" ∷ decimal version.0 ∷ [])
+    codes "begin" ∷ spelt_lane lane ∷ (operation_words operation ++
+    spelt_level (level_of operation) ∷ codes "at" ∷ decimal version.0 ∷ [])
 event_words (Take lane at) = codes "take" ∷ spelt_lane lane ∷ reference_word at ∷ []
 event_words (Timeout lane op) = codes "timeout" ∷ spelt_lane lane ∷ decimal op.0 ∷ []
 event_words (Apply host) = codes "apply" ∷ spelt_host host ∷ []

@@ -1,22 +1,25 @@
 // The lines of events.
 ghost use Rattle.std.specs.Fmt.{decimal};
 ghost use Rattle.std.specs.Prelude.{◌≡◌, ◌++◌, ◌∷◌, [], OnOk};
+ghost use Rattle.cluster_history.specs.Messages.{level_of};
 ghost use Rattle.cluster_history.specs.declared.data.Event.TheVariants.{Ask, Begin};
 ghost use Rattle.schedule_write.specs.Words.{spaced_words, joined_words, spelt_host, spelt_lane, reference_word};
 ghost use Rattle.schedule_write.specs.Events.{operation_words, spelt_what, spelt_command, actor_words, event_words};
 ghost use Rattle.topo_state.specs.declared.command.Command.TheVariants.{CreateTable, Start};
 
 use crate::words::{
-    cell, host, lane, number, reference, replica, replicas, resize_word, signed, target_word, word,
+    cell, host, lane, level_word, number, reference, replica, replicas, resize_word, signed,
+    target_word, word,
 };
 use barrier_core::What;
 use base_ids::{Actor, HostId, LaneId, MsgRef, NoMemory, Replica, TableId, Version};
 use cluster_history::{Event, Operation};
+use stage_graph::Level;
 use std::alloc::Global;
 use token_ring::TabletId;
 use topo_state::Command;
 
-/// Adds what a client asks.
+/// Adds what a client asks, without its level.
 fn operation(alloc: Global, text: &mut Vec<u8>, operation: &Operation) -> Result<(), NoMemory>
     ensures { OnOk result (text.new.items ≡ text.old.items ++ spaced_words (operation_words operation.now)) }
 {
@@ -25,13 +28,14 @@ fn operation(alloc: Global, text: &mut Vec<u8>, operation: &Operation) -> Result
             table,
             token,
             cell: written,
+            ..
         } => {
             word(text, "write")?;
             number(text, u64::from(table.0))?;
             signed(text, token.get())?;
             cell(alloc, text, written)
         }
-        Operation::Read { table, token } => {
+        Operation::Read { table, token, .. } => {
             word(text, "read")?;
             number(text, u64::from(table.0))?;
             signed(text, token.get())
@@ -183,7 +187,17 @@ fn of_lane(text: &mut Vec<u8>, verb: &str, by: LaneId) -> Result<(), NoMemory>
     lane(text, by)
 }
 
-/// Adds the words of a begin, which names its version.
+/// The level of what a client asks.
+fn level_of(operation: &Operation) -> Level
+    ensures { result ≡ level_of operation.now }
+{
+    match operation {
+        Operation::Write { level, .. } => *level,
+        Operation::Read { level, .. } => *level,
+    }
+}
+
+/// Adds the words of a begin, which names its level and its version.
 fn begin(
     alloc: Global,
     text: &mut Vec<u8>,
@@ -195,8 +209,10 @@ fn begin(
 {
     of_lane(text, "begin", by)?;
     operation(alloc, text, asked)?;
+    word(text, level_word(level_of(asked)))?;
     word(text, "at")?;
-    number(text, version.0)
+    number(text, version.0)?;
+    Ok(())
 }
 
 /// Adds the words of a coordinator's question.

@@ -1,13 +1,13 @@
 // The words that lines are made of, each of which is added behind others with a space before it.
 ghost use Rattle.std.specs.Fmt.{decimal, signed_decimal};
 ghost use Rattle.std.specs.Prelude.{◌≡◌, ◌++◌, ◌∷◌, [], OnOk};
-ghost use Rattle.report_text.specs.Report.{cell_text};
-ghost use Rattle.schedule_write.specs.Words.{spaced_words, spelt_host, spelt_lane, replica_word, replica_words, reference_word, spelt_target, spelt_resize};
+ghost use Rattle.schedule_words.specs.Texts.{cell_text};
+ghost use Rattle.schedule_write.specs.Words.{spaced_words, spelt_host, spelt_lane, replica_word, replica_words, reference_word, spelt_target, spelt_level, spelt_resize};
 
 use base_ids::{HostId, LaneId, MsgRef, NoMemory, Replica};
 use cell_merge::Cell;
-use report_text::cell_text;
-use stage_graph::Stage;
+use schedule_words::cell_text;
+use stage_graph::{Level, Stage};
 use std::alloc::Global;
 use topo_state::ResizeKind;
 
@@ -102,6 +102,19 @@ pub(crate) fn target_word(to: Option<Stage>) -> &'static str
     match to {
         Some(stage) => stage.word(),
         None => "none",
+    }
+}
+
+/// The word of a level.
+pub(crate) fn level_word(level: Level) -> &'static str
+    ensures { result.now ≡ spelt_level level }
+{
+    match level {
+        Level::One => "one",
+        Level::Two => "two",
+        Level::Three => "three",
+        Level::Quorum => "quorum",
+        Level::All => "all",
     }
 }
 

@@ -5,7 +5,7 @@ use Rattle.std.proofs.Math.Nat.{pow-suc}
 use Rattle.std.proofs.lemmas.Bool.Decides.{nat_tests}
 use Rattle.std.proofs.lemmas.Option.{cond_some, same_Some}
 use Rattle.text_grammar.specs.Words.{IsFree, IsDigit, worth, AreDigits, IsHexDigit, AreHex, IsCut}
-use Rattle.text_grammar.specs.Readings.{digit_of, behind_digit, with_digits, unsigned_of, hex_digit_of, onto_bytes, hex_bytes_of, onto_front, cut_at, with_front, parts_of}
+use Rattle.text_grammar.specs.Readings.{digit_of, behind_digit, with_digits, unsigned_of, hex_digit_of, onto_bytes, hex_bytes_of, onto_front, cut_at}
 
 pub both_true : (a b : Bool) → (a && b) ≡ true → (a ≡ true) × (b ≡ true)
 both_true true b e = (refl, e)
@@ -134,58 +134,33 @@ differ a b h = λ e. grind (arith, nat_tests)
 same_test : (a b : ℕ) → (a == b) ≡ true → a ≡ b
 same_test a b h = grind (arith, nat_tests)
 
-record CutsAt (s : ℕ) (word front back : List ℕ) : Type 0 where
-  pub spelt : word ≡ front ++ s ∷ back
-  pub free : IsFree s front
-
 front_there : (s b : ℕ) (word : List ℕ) (cut : List ℕ × List ℕ) → (b == s) ≡ false
-    → (found : Option (List ℕ × List ℕ)) → ((c : List ℕ × List ℕ) → found ≡ Some c → CutsAt s word c.0 c.1) → onto_front b found ≡ Some cut → CutsAt s (b ∷ word) cut.0 cut.1
+    → (found : Option (List ℕ × List ℕ)) → ((c : List ℕ × List ℕ) → found ≡ Some c → IsCut s word c.0 c.1) → onto_front b found ≡ Some cut → IsCut s (b ∷ word) cut.0 cut.1
 front_there s b word cut other None before e = absurd (cc)
 front_there s b word cut other (Some c) before e =
-    let a : CutsAt s word c.0 c.1 = before c refl in
-    let made : CutsAt s (b ∷ word) (b ∷ c.0) c.1 = record { spelt = ap (λ (x : List ℕ). b ∷ x) a.spelt; free = (differ b s other, a.free) } in
+    let a : IsCut s word c.0 c.1 = before c refl in
+    let made : IsCut s (b ∷ word) (b ∷ c.0) c.1 = record { spelt = ap (λ (x : List ℕ). b ∷ x) a.spelt; free = (differ b s other, a.free) } in
     let same : (b ∷ c.0, c.1) ≡ cut = same_Some (b ∷ c.0, c.1) cut e in
-    subst (λ (x : List ℕ × List ℕ). CutsAt s (b ∷ word) x.0 x.1) same made
+    subst (λ (x : List ℕ × List ℕ). IsCut s (b ∷ word) x.0 x.1) same made
 
-cut_there : (s : ℕ) (word : List ℕ) (cut : List ℕ × List ℕ) → cut_at s word ≡ Some cut → CutsAt s word cut.0 cut.1
-cut_there s [] cut e = absurd (cc)
-cut_there s (b ∷ word) cut e =
-    elim (b == s) as (λ (t : Bool). (b == s) ≡ t → cond t (Some ([], word)) (onto_front b (cut_at s word)) ≡ Some cut → CutsAt s (b ∷ word) cut.0 cut.1) [
+pub cut_told : (s : ℕ) (word : List ℕ) (cut : List ℕ × List ℕ) → cut_at s word ≡ Some cut → IsCut s word cut.0 cut.1
+cut_told s [] cut e = absurd (cc)
+cut_told s (b ∷ word) cut e =
+    elim (b == s) as (λ (t : Bool). (b == s) ≡ t → cond t (Some ([], word)) (onto_front b (cut_at s word)) ≡ Some cut → IsCut s (b ∷ word) cut.0 cut.1) [
       | true ↦ λ is f.
           let same : ([], word) ≡ cut = same_Some ([], word) cut f in
-          let made : CutsAt s (s ∷ word) [] word = record { spelt = refl; free = tt } in
-          let moved_to : CutsAt s (b ∷ word) [] word = subst (λ (x : ℕ). CutsAt s (x ∷ word) [] word) (sym (same_test b s is)) made in
-          subst (λ (x : List ℕ × List ℕ). CutsAt s (b ∷ word) x.0 x.1) same moved_to
-      | false ↦ λ is f. front_there s b word cut is (cut_at s word) (λ c g. cut_there s word c g) f
+          let made : IsCut s (s ∷ word) [] word = record { spelt = refl; free = tt } in
+          let moved_to : IsCut s (b ∷ word) [] word = subst (λ (x : ℕ). IsCut s (x ∷ word) [] word) (sym (same_test b s is)) made in
+          subst (λ (x : List ℕ × List ℕ). IsCut s (b ∷ word) x.0 x.1) same moved_to
+      | false ↦ λ is f. front_there s b word cut is (cut_at s word) (λ c g. cut_told s word c g) f
     ] refl e
 
 pub cut_back : (s : ℕ) (front back : List ℕ) → IsFree s front → cut_at s (front ++ s ∷ back) ≡ Some (front, back)
 cut_back s [] back f = rw (eq-eqb s s refl) refl
 cut_back s (b ∷ front) back f = rw (not_equal b s f.0, cut_back s front back f.1) refl
 
-some_front : (o : Option (List ℕ × List ℕ)) (cut : List ℕ × List ℕ) → with_front o ≡ Some cut → (o ≡ Some cut) × (1 ≤ length cut.0)
-some_front None cut e = absurd (cc)
-some_front (Some c) cut e =
-    let p : (nat_le 1 (length c.0) ≡ true) × (c ≡ cut) = cond_some (nat_le 1 (length c.0)) c cut e in
-    let p0 : nat_le 1 (length c.0) ≡ true = p.0 in
-    let h : 1 ≤ length c.0 = grind (arith, nat_tests) in
-    (ap Some p.1, subst (λ (x : List ℕ × List ℕ). 1 ≤ length x.0) p.1 h)
-
-pub cut_told : (s : ℕ) (word : List ℕ) (cut : List ℕ × List ℕ) → parts_of s word ≡ Some cut → IsCut s word cut.0 cut.1
-unfolding parts_of
-cut_told s word cut e =
-    let p = some_front (cut_at s word) cut e in
-    let c : CutsAt s word cut.0 cut.1 = cut_there s word cut p.0 in
-    record { spelt = c.spelt; free = c.free; some = p.1 }
-
-is_some_front : (k : ℕ) → 1 ≤ k → nat_le 1 k ≡ true
-is_some_front k h = grind (arith, nat_tests)
-
-pub cut_read : (s : ℕ) (word front back : List ℕ) → IsCut s word front back → parts_of s word ≡ Some (front, back)
-unfolding parts_of
-cut_read s word front back is =
-    let c : cut_at s word ≡ Some (front, back) = ap (cut_at s) is.spelt ∙ cut_back s front back is.free in
-    rw (c, is_some_front (length front) is.some) refl
+pub cut_read : (s : ℕ) (word front back : List ℕ) → IsCut s word front back → cut_at s word ≡ Some (front, back)
+cut_read s word front back is = ap (cut_at s) is.spelt ∙ cut_back s front back is.free
 
 pub cut_none : (s : ℕ) (word : List ℕ) → IsFree s word → cut_at s word ≡ None
 cut_none s [] free = refl

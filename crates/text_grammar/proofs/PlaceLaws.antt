@@ -5,7 +5,7 @@ use Rattle.text_grammar.specs.declared.faults.Fault.{Fault}
 use Rattle.text_grammar.specs.declared.faults.Fault.TheVariants.{Refused}
 use Rattle.text_grammar.specs.Words.{AreDigits, AreHex, IsCut}
 use Rattle.text_grammar.specs.Shapes.{Place, Digits, Hex, Known, Judged, Cut, ByFirst, Behind, begins_with, tail, Either, Is, At}
-use Rattle.text_grammar.specs.Readings.{◌>>=◌, or_rule, unsigned_of, hex_bytes_of, parts_of, read}
+use Rattle.text_grammar.specs.Readings.{◌>>=◌, or_rule, unsigned_of, hex_bytes_of, cut_at, read}
 use Rattle.text_grammar.proofs.Numerals.{number_told, number_read, hex_told, hex_read, cut_told, cut_read}
 
 -- what a reading tells: the place's word, or its fault
@@ -37,7 +37,7 @@ parts_told : {A B : Type 0} (s : ℕ) (rule : TextRule) (first : Place A) (last 
 parts_told s rule first last word front back cut more (Ok a) is = last_told s rule first last word front back a cut is (read (last a) back) (more a)
 parts_told s rule first last word front back cut more (Err r) is = inr (front, back, cut, inl is)
 
-cut_or : {A B : Type 0} (s : ℕ) (rule : TextRule) (first : Place A) (last : A → Place B) (word : List ℕ) → ((w : List ℕ) → Told first w (read first w)) → ((a : A) (w : List ℕ) → Told (last a) w (read (last a) w)) → (found : Option (List ℕ × List ℕ)) → parts_of s word ≡ found → Told (Cut s rule first last) word (or_rule rule found >>= λ cut. read first cut.0 >>= λ a. read (last a) cut.1)
+cut_or : {A B : Type 0} (s : ℕ) (rule : TextRule) (first : Place A) (last : A → Place B) (word : List ℕ) → ((w : List ℕ) → Told first w (read first w)) → ((a : A) (w : List ℕ) → Told (last a) w (read (last a) w)) → (found : Option (List ℕ × List ℕ)) → cut_at s word ≡ found → Told (Cut s rule first last) word (or_rule rule found >>= λ cut. read first cut.0 >>= λ a. read (last a) cut.1)
 cut_or s rule first last word on_first on_last (Some cut) e = parts_told s rule first last word cut.0 cut.1 (cut_told s word cut e) (λ a. on_last a cut.1) (read first cut.0) (on_first cut.0)
 cut_or s rule first last word on_first on_last None e = inl (refl, λ front back is. cc (cut_read s word front back is))
 
@@ -63,7 +63,7 @@ told {A} (Known table) word =
       | Err r ↦ λ e. e
     ] refl
 told (Judged place judge) word = judged_told place judge word (read place word) (told place word)
-told (Cut s rule first last) word = cut_or s rule first last word (λ w. told first w) (λ a w. told (last a) w) (parts_of s word) refl
+told (Cut s rule first last) word = cut_or s rule first last word (λ w. told first w) (λ a w. told (last a) w) (cut_at s word) refl
 told {A} (ByFirst test one other) word =
     elim (begins_with test word) as (λ (t : Bool). begins_with test word ≡ t → Told (ByFirst test one other) word (cond t (read one word) (read other word))) [
       | true ↦ λ e. first_told test one other word true e (read one word) (told one word)
@@ -100,7 +100,7 @@ not_hex : (rule : TextRule) (word : List ℕ) → ((bytes : List ℕ) → AreHex
 not_hex rule word none (Some bytes) e = absurd (none bytes (hex_told word bytes e))
 not_hex rule word none None e = refl
 
-no_cut : (s : ℕ) (rule : TextRule) (word : List ℕ) → ((front back : List ℕ) → IsCut s word front back → ⊥) → (found : Option (List ℕ × List ℕ)) → parts_of s word ≡ found → or_rule rule found ≡ Err (Refused rule)
+no_cut : (s : ℕ) (rule : TextRule) (word : List ℕ) → ((front back : List ℕ) → IsCut s word front back → ⊥) → (found : Option (List ℕ × List ℕ)) → cut_at s word ≡ found → or_rule rule found ≡ Err (Refused rule)
 no_cut s rule word none (Some cut) e = absurd (none cut.0 cut.1 (cut_told s word cut e))
 no_cut s rule word none None e = refl
 
@@ -111,7 +111,7 @@ faults (Known table) word r at = at
 faults (Judged place judge) word r (inl at) = ap (λ x. x >>= judge) (faults place word r at)
 faults (Judged place judge) word r (inr at) = ap (λ x. x >>= judge) (reads place word at.0 at.1) ∙ at.2
 faults (Cut s rule first last) word r (inl at) =
-    ap (λ x. x >>= λ cut. read first cut.0 >>= λ a. read (last a) cut.1) (no_cut s rule word at.1 (parts_of s word) refl) ∙ ap Err (sym at.0)
+    ap (λ x. x >>= λ cut. read first cut.0 >>= λ a. read (last a) cut.1) (no_cut s rule word at.1 (cut_at s word) refl) ∙ ap Err (sym at.0)
 faults (Cut s rule first last) word r (inr (front, back, cut, inl at)) =
     ap (λ o. or_rule rule o >>= λ c. read first c.0 >>= λ a. read (last a) c.1) (cut_read s word front back cut)
     ∙ ap (λ x. x >>= λ a. read (last a) back) (faults first front r at)

@@ -61,14 +61,6 @@ abbrev pub cut_at : ℕ → List ℕ → Option (List ℕ × List ℕ)
 cut_at separator [] = None
 cut_at separator (b ∷ bytes) = if b == separator then Some ([], bytes) else onto_front b (cut_at separator bytes)
 
--- the two parts, where something stands before the separator
-abbrev pub with_front : Option (List ℕ × List ℕ) → Option (List ℕ × List ℕ)
-with_front None = None
-with_front (Some cut) = if nat_le 1 (length cut.0) then Some cut else None
-
-unfoldable pub parts_of : ℕ → List ℕ → Option (List ℕ × List ℕ)
-parts_of separator word = with_front (cut_at separator word)
-
 -- what the word tells at a place
 abbrev pub read : {A : Type 0} → Place A → List ℕ → Result A Fault
 read (Digits rule) word = or_rule rule (unsigned_of word)
@@ -76,7 +68,7 @@ read (Hex rule) word = or_rule rule (hex_bytes_of word)
 read (Known table) word = table word
 read (Judged place judge) word = read place word >>= judge
 read (Cut separator rule first last) word =
-    or_rule rule (parts_of separator word) >>= λ cut. read first cut.0 >>= λ a. read (last a) cut.1
+    or_rule rule (cut_at separator word) >>= λ cut. read first cut.0 >>= λ a. read (last a) cut.1
 read (ByFirst test one other) word = if begins_with test word then read one word else read other word
 read (Behind byte one other) word = if begins_with (λ b. b == byte) word then read one (tail word) else read other word
 

@@ -36,11 +36,10 @@ AreHex (a ∷ b ∷ word) bytes =
     (high low : ℕ) × (rest : List ℕ) × IsHexDigit a high × IsHexDigit b low × AreHex word rest
     × (bytes ≡ (high * 16 + low) ∷ rest)
 
--- the word has this separator, and these parts before and behind the first one, where something stands before
+-- the word has this separator, and these parts before and behind the first one; either may be empty
 pub record IsCut (separator : ℕ) (word front back : List ℕ) : Type 0 where
   pub spelt : word ≡ front ++ separator ∷ back
   pub free : IsFree separator front
-  pub some : 1 ≤ length front
 
 -- ---- the words of a line
 

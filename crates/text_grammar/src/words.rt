@@ -3,7 +3,7 @@ ghost use Rattle.std.specs.Prelude.{◌≡◌, ◌==◌, ◌<◌, ◌∷◌, len
 ghost use Rattle.std.specs.List.{position};
 ghost use Rattle.std.specs.Option.{option_map};
 ghost use Rattle.text_grammar.specs.Cuts.{words_of, starts_word, seen_word, seen_parts};
-ghost use Rattle.text_grammar.specs.Readings.{next_of, no_more, ends_line, cut_at, parts_of, or_rule};
+ghost use Rattle.text_grammar.specs.Readings.{next_of, no_more, ends_line, cut_at, or_rule};
 
 use crate::faults::{Fault, TextRule};
 
@@ -22,20 +22,14 @@ pub fn cut_at(byte: u8, bytes: &[u8]) -> Option<(&[u8], &[u8])>
     Some((&bytes[..at], &bytes[at + 1..]))
 }
 
-/// What stands before and behind the first separator of a word, where something stands before it. Else the rule.
-#[tactic(auto, unfolding(crate::specs::Readings::parts_of))]
+/// What stands before and behind the first separator of a word; either may be empty. A word without a separator is at
+/// fault with the rule.
 pub fn parts(separator: u8, rule: TextRule, word: &[u8]) -> Result<(&[u8], &[u8]), Fault>
-    ensures { seen_parts result ≡ or_rule rule (parts_of separator word.now) }
+    ensures { seen_parts result ≡ or_rule rule (cut_at separator word.now) }
 {
     match cut_at(separator, word) {
         None => Err(Fault::Refused(rule)),
-        Some((front, back)) => {
-            if front.is_empty() {
-                Err(Fault::Refused(rule))
-            } else {
-                Ok((front, back))
-            }
-        }
+        Some((front, back)) => Ok((front, back)),
     }
 }
 

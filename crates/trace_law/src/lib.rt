@@ -3,4 +3,4 @@
 
 mod laws;
 
-pub use laws::{law_entries_are_played, law_written_runs_are_traces};
+pub use laws::{law_entries_are_played, law_written_run_is_a_trace, law_written_runs_are_traces};

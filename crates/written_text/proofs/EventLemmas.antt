@@ -1,5 +1,5 @@
 -- The words of a written event are of the form of a line that says it.
-use Rattle.std.proofs.Common.{List, None, Ok, [], append-nil, append_assoc, arith, codes, length, nat_lt, refl, subst, true, ℕ, ◌++◌, ◌+◌, ◌<◌, ◌∷◌, ◌≡◌, ◌≤◌}
+use Rattle.std.proofs.Common.{List, None, Some, Ok, [], append-nil, append_assoc, ap, arith, codes, length, nat_lt, refl, subst, sym, true, ℕ, ◌++◌, ◌+◌, ◌^◌, ◌<◌, ◌∷◌, ◌≡◌, ◌≤◌}
 use Rattle.std.proofs.lemmas.Bool.Decides.{nat_tests}
 use Rattle.std.proofs.lemmas.List.{length-append}
 use Rattle.std.specs.Fmt.{decimal}
@@ -12,8 +12,10 @@ use Rattle.base_ids.specs.declared.ids.HostId.{HostId}
 use Rattle.base_ids.specs.declared.ids.LaneId.{LaneId}
 use Rattle.base_ids.specs.declared.ids.MsgRef.{MsgRef}
 use Rattle.base_ids.specs.declared.ids.Replica.{Replica}
+use Rattle.base_ids.specs.declared.ids.Version.{Version}
 use Rattle.base_ids.specs.declared.rules.LimitName.TheVariants.{Replicas}
 use Rattle.cluster_history.specs.Legal.{HasActor, IsFitEvent}
+use Rattle.cluster_history.specs.Messages.{level_of}
 use Rattle.cluster_history.specs.Openings.{HasHost, HasLane, HasPart}
 use Rattle.cluster_history.specs.declared.data.Event.{Event}
 use Rattle.cluster_history.specs.declared.data.Event.TheVariants.{Answer, Apply, Ask, Begin, Clean, Hear, Look, Propose, Pull, Quiet, Restart, Serve, Take, TakeChunk, Timeout}
@@ -22,7 +24,16 @@ use Rattle.cluster_history.specs.declared.data.Operation.{Operation}
 use Rattle.cluster_history.specs.declared.data.Operation.TheVariants.{Read, Write}
 use Rattle.schedule_data.specs.declared.data.LineAct.TheVariants.{Event as OneEvent}
 use Rattle.schedule_data.specs.declared.data.LineRef.TheVariants.{Journal as InJournal}
-use Rattle.schedule_lines.specs.Forms.{OfEvent, act_form, actor, advance, ask, at_version, begin, command, create, finalize, host_named, of_command, of_host, of_lane, of_lane_message, of_lane_request, of_message, of_session, of_version, operation, read_form, resize, set_fence, start, what, what_session, what_version, write}
+use Rattle.schedule_lines.specs.Forms.{OfEvent, act_form, actor, advance, ask, at_version, begin, begin_by, begin_with, command, create, finalize, host_named, of_command, of_host, of_lane, of_lane_message, of_lane_request, of_message, of_session, of_version, operation, read_form, resize, set_fence, start, what, what_session, what_version, with_level, write}
+use Rattle.schedule_lines.specs.Verbs.{behind_word}
+use Rattle.schedule_lines.specs.declared.verbs.Behind.TheVariants.{Level as BehindLevel}
+use Rattle.schedule_data.specs.declared.data.LineEvent.TheVariants.{Begin as BeginLine}
+use Rattle.stage_graph.specs.declared.level.Level.{Level}
+use Rattle.stage_graph.specs.declared.level.Level.TheVariants.{One, Two, Three, Quorum, All}
+use Rattle.schedule_words.specs.declared.counts.Format.{Format}
+use Rattle.schedule_words.specs.declared.counts.Format.TheVariants.{Two as SecondFormat}
+use Rattle.text_grammar.specs.Readings.{or_rule}
+use Rattle.text_grammar.specs.declared.faults.TextRule.TheVariants.{BadWord}
 use Rattle.schedule_lines.specs.declared.verbs.ActorWord.TheVariants.{Host as HostWord, Lane as LaneWord, Topo as TopoWord}
 use Rattle.schedule_lines.specs.declared.verbs.CommandVerb.TheVariants.{Advance as AdvanceVerb, Create as CreateVerb, Fence as SetFenceVerb, Finalize as FinalizeVerb, Join as JoinVerb, Leave as LeaveVerb, Resize as ResizeVerb, Start as StartVerb}
 use Rattle.schedule_lines.specs.declared.verbs.EventVerb.TheVariants.{Host as HostEvent, Lane as LaneEvent, Restart as RestartVerb, Topo as TopoEvent}
@@ -32,12 +43,12 @@ use Rattle.schedule_lines.specs.declared.verbs.OperationVerb.TheVariants.{Read a
 use Rattle.schedule_lines.specs.declared.verbs.TopoVerb.TheVariants.{Ask as AskVerb, Hear as HearVerb, Look as LookVerb, Propose as ProposeVerb}
 use Rattle.schedule_lines.specs.declared.verbs.WhatVerb.TheVariants.{Clean as CleanAsk, Done as DoneAsk, Drain as DrainAsk, Fence as FenceAsk, Ready as ReadyAsk}
 use Rattle.schedule_words.specs.Labels.{LineOf}
-use Rattle.schedule_words.specs.Places.{host, lane, next_replica}
+use Rattle.schedule_words.specs.Places.{host, lane, next_replica, one_of}
 use Rattle.schedule_words.specs.declared.counts.Counts.{Counts}
 use Rattle.schedule_write.specs.Events.{actor_words, spelt_command, event_words, operation_words, spelt_what}
-use Rattle.schedule_write.specs.Words.{spelt_host, spelt_lane, reference_word, replica_words}
+use Rattle.schedule_write.specs.Words.{spelt_host, spelt_lane, spelt_level, reference_word, replica_words}
 use Rattle.text_grammar.specs.Judging.{if_within}
-use Rattle.text_grammar.specs.Shapes.{AreEach, Each, Is, Shape, Spells}
+use Rattle.text_grammar.specs.Shapes.{AreEach, Each, EndOr, Is, Shape, Spells, Word}
 use Rattle.topo_state.specs.Rules.{IsFit}
 use Rattle.topo_state.specs.declared.command.Command.{Command}
 use Rattle.topo_state.specs.declared.command.Command.TheVariants.{Advance, CreateTable, FinalizeResize, Join, Leave, Resize, SetFence, Start}
@@ -47,12 +58,31 @@ use Rattle.written_text.specs.Schedules.{line_event}
 
 -- ---- parts of lines
 
-spells_operation : {A : Type 0} (more : Operation → Shape A) (op : Operation) (rest : List (List ℕ)) (a : A) → FitsOperation op → Spells (more op) rest a → Spells (operation more) (operation_words op ++ rest) a
+spells_operation : {A : Type 0} (more : Operation → Shape A) (op : Operation) (rest : List (List ℕ)) (a : A) → FitsOperation op → Spells (more (with_level Quorum op)) rest a → Spells (operation more) (operation_words op ++ rest) a
 unfolding operation write read_form
-spells_operation more (Write t k c) rest a fits spells =
+spells_operation more (Write t k c level) rest a fits spells =
     (WriteVerb, refl, (t, is_table_number t fits.0, (k, is_token k, (c, is_cell c fits.1, spells))))
-spells_operation more (Read t k) rest a fits spells =
+spells_operation more (Read t k level) rest a fits spells =
     (ReadVerb, refl, (t, is_table_number t fits, (k, is_token k, spells)))
+
+-- a level is known by its word in the second format
+known_level : (level : Level) → or_rule BadWord (behind_word SecondFormat (spelt_level level)) ≡ Ok (BehindLevel level)
+known_level One = refl
+known_level Two = refl
+known_level Three = refl
+known_level Quorum = refl
+known_level All = refl
+
+own_level : (op : Operation) → with_level (level_of op) (with_level Quorum op) ≡ op
+own_level (Write t k c level) = refl
+own_level (Read t k level) = refl
+
+-- a level and a version behind an operation
+spells_behind : (l : LaneId) (op : Operation) (v : Version) → v.0 < 2 ^ 64 →
+    Spells (EndOr (BeginLine l (with_level Quorum op) None) (Word (one_of (behind_word SecondFormat)) (begin_by l (with_level Quorum op)))) (spelt_level (level_of op) ∷ codes "at" ∷ decimal v.0 ∷ []) (BeginLine l op (Some v))
+unfolding begin_with at_version
+spells_behind l op v fits =
+    (BehindLevel (level_of op), known_level (level_of op), (v, (tt, refl, (v, is_version v fits, refl)), ap (λ (o : Operation). BeginLine l o (Some v)) (sym (own_level op))))
 
 spells_what : (w : What) → FitsWhat w → Spells what (spelt_what w) w
 unfolding what what_version what_session
@@ -115,8 +145,9 @@ spells_command (FinalizeResize t s) fits fit =
 
 -- the hosts and lanes of an opening are few
 pub record AreFew (counts : Counts) (opening : Opening) : Type 0 where
+  pub format : counts.format ≡ SecondFormat
   pub hosts : counts.hosts ≡ opening.hosts
-  pub few_hosts : counts.hosts ≤ 64
+  pub few_hosts : counts.hosts ≤ 256
   pub lanes : counts.lanes ≡ opening.lanes
   pub few_lanes : counts.lanes ≤ 4
 
@@ -158,7 +189,10 @@ spells_event counts opening few labels (Begin l op v) has fit fits = (
     (
       l,
       lane_there counts opening few l has,
-      spells_operation _ op (codes "at" ∷ decimal v.0 ∷ []) (line_event (Begin l op v)) fits.0 (v, (tt, refl, (v, is_version v fits.1, refl)), refl),
+      spells_operation _ op (spelt_level (level_of op) ∷ codes "at" ∷ decimal v.0 ∷ []) (line_event (Begin l op v)) fits.0
+          (subst
+          (λ (f : Format). Spells (EndOr (BeginLine l (with_level Quorum op) None) (Word (one_of (behind_word f)) (begin_by l (with_level Quorum op)))) (spelt_level (level_of op) ∷ codes "at" ∷ decimal v.0 ∷ []) (BeginLine l op (Some v)))
+          (sym few.format) (spells_behind l op v fits.1)),
     ),
     refl,
   ),

@@ -15,6 +15,7 @@ use Rattle.base_ids.specs.declared.rules.LimitName.TheVariants.{Replicas}
 use Rattle.cluster_history.specs.Openings.{opening_state}
 use Rattle.cluster_history.specs.declared.data.Opening.{Opening}
 use Rattle.schedule_header.specs.Forms.{count, count_by, count_line, header_line, may_hold, may_place, member, members_line, named_table, named_tablet, new_table, new_table_by, replicas_line, table_line, table_replica, table_size, tablet_line}
+use Rattle.schedule_words.specs.declared.counts.Format.TheVariants.{Two as SecondFormat}
 use Rattle.schedule_header.specs.Header.{Header, SaidTable, SaidTablet, is_placed}
 use Rattle.schedule_words.specs.Places.{next_replica}
 use Rattle.schedule_words.specs.declared.verbs.HeaderVerb.TheVariants.{Table as TableWord, Tablet as TabletWord}
@@ -27,8 +28,7 @@ use Rattle.text_grammar.specs.Readings.{or_rule}
 use Rattle.text_grammar.specs.Shapes.{AreEach, Spells}
 use Rattle.text_grammar.specs.declared.faults.TextRule.TheVariants.{BadHeader, BadReplicas}
 use Rattle.token_ring.specs.declared.ring.TabletId.{TabletId}
-use Rattle.topo_state.specs.Openings.{distinct_members}
-use Rattle.topo_state.specs.State.{is_known, is_member, is_on_member}
+use Rattle.topo_state.specs.State.{distinct_members, is_known, is_member, is_on_member}
 use Rattle.topo_state.specs.Tables.{has_id, table_in, tablet_count}
 use Rattle.topo_state.specs.declared.data.Table.{Table}
 use Rattle.written_text.proofs.FitLemmas.{IsTabletFit, both, found_at, no_member_before, no_replica_before}
@@ -47,7 +47,7 @@ not_above n limit few = grind (arith, nat_tests)
 
 abbrev pub header_at : Opening → List Table → List (TableId × TabletId) → Header
 header_at opening tables placed =
-    record { hosts = Some opening.hosts; lanes = Some opening.lanes; shards = Some opening.shards; members = Some opening.members; tables = tables; placed = placed }
+    record { format = SecondFormat; hosts = Some opening.hosts; lanes = Some opening.lanes; shards = Some opening.shards; members = Some opening.members; tables = tables; placed = placed }
 
 -- ---- counts and members
 
@@ -59,7 +59,7 @@ unfolding count_line count
 spells_count limit most n name some few less small =
     (n, (n, is_number limit n (omega arith) small, counted most n name some few), refl)
 
-are_members : (hosts : ℕ) → hosts ≤ 64 → (members earlier : List HostId) → All (λ (h : HostId). h.0 < hosts) members → distinct_members (earlier ++ members) ≡ true → AreEach (member hosts) earlier (map spelt_host members) (earlier ++ members)
+are_members : (hosts : ℕ) → hosts ≤ 256 → (members earlier : List HostId) → All (λ (h : HostId). h.0 < hosts) members → distinct_members (earlier ++ members) ≡ true → AreEach (member hosts) earlier (map spelt_host members) (earlier ++ members)
 unfolding member
 are_members hosts small [] earlier within distinct = append-nil earlier
 are_members hosts small (h ∷ members) earlier within distinct =
@@ -73,7 +73,7 @@ are_members hosts small (h ∷ members) earlier within distinct =
           (are_members hosts small members (earlier ++ h ∷ []) (All-tail (λ (x : HostId). x.0 < hosts) h members within) (subst (λ (list : List HostId). distinct_members list ≡ true) (sym more) distinct)),
     )
 
-pub spells_members : (hosts : ℕ) → hosts ≤ 64 → (members : List HostId) → 1 ≤ length members → All (λ (h : HostId). h.0 < hosts) members → distinct_members members ≡ true → Spells (members_line hosts) (map spelt_host members) members
+pub spells_members : (hosts : ℕ) → hosts ≤ 256 → (members : List HostId) → 1 ≤ length members → All (λ (h : HostId). h.0 < hosts) members → distinct_members members ≡ true → Spells (members_line hosts) (map spelt_host members) members
 unfolding members_line
 spells_members hosts small [] some within distinct = absurd (omega arith)
 spells_members hosts small (h ∷ members) some within distinct = (h ∷ members, are_members hosts small (h ∷ members) [] within distinct, refl)
@@ -93,7 +93,7 @@ record AreFit (opening : Opening) (replicas : List Replica) : Type 0 where
   pub known : list_all (is_known (opening_state opening)) replicas ≡ true
   pub here : list_all (is_on_member opening.members) replicas ≡ true
 
-are_replicas : (opening : Opening) → opening.hosts ≤ 64 → opening.shards ≤ 16 → (tables : List Table) (placed : List (TableId × TabletId)) (replicas earlier : List Replica) → AreFit opening replicas → on_distinct_hosts (earlier ++ replicas) ≡ true → length earlier + length replicas ≤ 8 → AreEach (table_replica (header_at opening tables placed)) earlier (replica_words replicas) (earlier ++ replicas)
+are_replicas : (opening : Opening) → opening.hosts ≤ 256 → opening.shards ≤ 16 → (tables : List Table) (placed : List (TableId × TabletId)) (replicas earlier : List Replica) → AreFit opening replicas → on_distinct_hosts (earlier ++ replicas) ≡ true → length earlier + length replicas ≤ 8 → AreEach (table_replica (header_at opening tables placed)) earlier (replica_words replicas) (earlier ++ replicas)
 unfolding table_replica next_replica
 are_replicas opening small least tables placed [] earlier fit distinct few = append-nil earlier
 are_replicas opening small least tables placed (r ∷ replicas) earlier fit distinct few =
@@ -120,7 +120,7 @@ are_replicas opening small least tables placed (r ∷ replicas) earlier fit dist
 abbrev AreOf : Opening → List Table → List (TableId × TabletId) → List Replica → Type 0
 AreOf opening tables placed replicas = Spells (replicas_line (header_at opening tables placed)) (replica_words replicas) replicas
 
-spells_replicas : (opening : Opening) → opening.hosts ≤ 64 → opening.shards ≤ 16 → (tables : List Table) (placed : List (TableId × TabletId)) (replicas : List Replica) → 1 ≤ length replicas → length replicas ≤ 8 → on_distinct_hosts replicas ≡ true → AreFit opening replicas → AreOf opening tables placed replicas
+spells_replicas : (opening : Opening) → opening.hosts ≤ 256 → opening.shards ≤ 16 → (tables : List Table) (placed : List (TableId × TabletId)) (replicas : List Replica) → 1 ≤ length replicas → length replicas ≤ 8 → on_distinct_hosts replicas ≡ true → AreFit opening replicas → AreOf opening tables placed replicas
 unfolding replicas_line
 spells_replicas opening small least tables placed [] some few distinct fit = absurd (omega arith)
 spells_replicas opening small least tables placed (r ∷ replicas) some few distinct fit =
@@ -141,7 +141,7 @@ new_there tables id none few = rw (none, below (length tables) 64 few) refl
 abbrev pub table_of : TableId → ℕ → List Tablet → Table
 table_of id log2 list = record { id = id; map = record { log2 = log2; list = list }; resize = None }
 
-pub spells_table : (opening : Opening) → opening.hosts ≤ 64 → opening.shards ≤ 16 → (tables : List Table) (placed : List (TableId × TabletId)) (id : TableId) (b : ℕ) (tablet : Tablet) → id.0 < 2 ^ 32 → list_any (has_id id) tables ≡ false → length tables < 64 → b ≤ 10 → tablet_count tables + 2 ^ b ≤ 1024 → IsTabletFit opening tablet
+pub spells_table : (opening : Opening) → opening.hosts ≤ 256 → opening.shards ≤ 16 → (tables : List Table) (placed : List (TableId × TabletId)) (id : TableId) (b : ℕ) (tablet : Tablet) → id.0 < 2 ^ 32 → list_any (has_id id) tables ≡ false → length tables < 64 → b ≤ 10 → tablet_count tables + 2 ^ b ≤ 1024 → IsTabletFit opening tablet
     → Spells (header_line (header_at opening tables placed)) (codes "table" ∷ decimal id.0 ∷ decimal b ∷ replica_words tablet.replicas) (SaidTable (table_of id b (new_tablets b tablet.replicas).list))
 unfolding header_line table_line new_table table_size
 spells_table opening small least tables placed id b tablet fits none few log all fit = (
@@ -166,7 +166,7 @@ spells_table opening small least tables placed id b tablet fits none few log all
   ),
 )
 
-pub spells_tablet : (opening : Opening) → opening.hosts ≤ 64 → opening.shards ≤ 16 → (earlier : List Table) (t : Table) (placed : List (TableId × TabletId)) (at : ℕ) (tablet : Tablet) → t.id.0 < 2 ^ 32 → list_any (has_id t.id) earlier ≡ false → at < length t.map.list → length t.map.list ≤ 1024 → is_placed placed t.id (record { 0 = at }) ≡ false → IsTabletFit opening tablet
+pub spells_tablet : (opening : Opening) → opening.hosts ≤ 256 → opening.shards ≤ 16 → (earlier : List Table) (t : Table) (placed : List (TableId × TabletId)) (at : ℕ) (tablet : Tablet) → t.id.0 < 2 ^ 32 → list_any (has_id t.id) earlier ≡ false → at < length t.map.list → length t.map.list ≤ 1024 → is_placed placed t.id (record { 0 = at }) ≡ false → IsTabletFit opening tablet
     → Spells (header_line (header_at opening (earlier ++ t ∷ []) placed)) (codes "tablet" ∷ decimal t.id.0 ∷ decimal at ∷ replica_words tablet.replicas) (SaidTablet (record { table = t.id; tablet = record { 0 = at }; replicas = tablet.replicas }))
 unfolding header_line tablet_line named_table named_tablet
 spells_tablet opening small least earlier t placed at tablet fits none inside few new fit = (

@@ -12,6 +12,8 @@ use Rattle.base_ids.specs.Replicas.{same_replica}
 use Rattle.base_ids.specs.declared.ids.Replica.{Replica}
 use Rattle.base_ids.specs.declared.ids.TableId.{TableId}
 use Rattle.cluster_history.specs.declared.data.Opening.{Opening}
+use Rattle.schedule_words.specs.declared.counts.Format.TheVariants.{Two as SecondFormat}
+use Rattle.schedule_header.specs.Forms.{most_hosts}
 use Rattle.schedule_header.specs.Header.{Header, SaidGo, SaidHosts, SaidLanes, SaidMembers, SaidShards, SaidTable, SaidTablet, TabletLine, is_placed, is_placed_at, no_header, placed_tables}
 use Rattle.schedule_header.specs.Forms.{header_line}
 use Rattle.base_ids.specs.declared.rules.LimitName.TheVariants.{Hosts, Lanes, Shards}
@@ -34,7 +36,7 @@ use Rattle.topo_state.specs.declared.data.Resize.{Resize}
 use Rattle.topo_state.specs.declared.data.Table.{Table}
 use Rattle.written_text.proofs.FitLemmas.{IsTableFit, IsTabletFit, both, no_table_before, no_table_behind, opening_fits}
 use Rattle.written_text.proofs.HeaderLemmas.{header_at, spells_count, spells_members, spells_table, spells_tablet, table_of}
-use Rattle.history_facts.proofs.NameLemmas.{same_replica-same}
+use Rattle.base_ids.proofs.NameLemmas.{same_replica-same}
 
 -- ---- lines one after another
 
@@ -87,7 +89,7 @@ record LeadsTo (opening : Opening) (earlier : List Table) (id : TableId) (b : �
 
 -- where the tablets of a table are written
 record IsPlace (opening : Opening) (earlier : List Table) (id : TableId) : Type 0 where
-  pub hosts : opening.hosts ≤ 64
+  pub hosts : opening.hosts ≤ 256
   pub shards : opening.shards ≤ 16
   pub fits : id.0 < 2 ^ 32
   pub new : list_any (has_id id) earlier ≡ false
@@ -199,7 +201,7 @@ table_leads opening earlier t placed number place few all fit new =
 some_tablets : (n b : ℕ) → n ≡ 2 ^ b → 1 ≤ n
 some_tablets n b e = let some : 0 < 2 ^ b = pow_pos b in omega arith
 
-tables_lead : (opening : Opening) → opening.hosts ≤ 64 → opening.shards ≤ 16 → (earlier tables : List Table) (placed : List (TableId × TabletId)) (number : ℕ) → have_distinct_ids (earlier ++ tables) ≡ true → length (earlier ++ tables) ≤ 64 → tablet_count (earlier ++ tables) ≤ 1024 → AllByRecursion (IsTableFit opening) tables → AllByRecursion (IsUnplaced placed) tables
+tables_lead : (opening : Opening) → opening.hosts ≤ 256 → opening.shards ≤ 16 → (earlier tables : List Table) (placed : List (TableId × TabletId)) (number : ℕ) → have_distinct_ids (earlier ++ tables) ≡ true → length (earlier ++ tables) ≤ 64 → tablet_count (earlier ++ tables) ≤ 1024 → AllByRecursion (IsTableFit opening) tables → AllByRecursion (IsUnplaced placed) tables
     → LeadsOver opening earlier (earlier ++ tables) placed number (flat_map table_lines tables)
 tables_lead opening small least earlier [] placed number distinct few all fit new =
     record { after = placed; leads = ap (λ (tables : List Table). InHeader (header_at opening tables placed)) (append-nil earlier) }
@@ -254,26 +256,26 @@ all_unplaced [] = tt
 all_unplaced (t ∷ tables) = (λ k. refl, all_unplaced tables)
 
 abbrev no_hosts : Opening → Header
-no_hosts opening = record no_header { hosts = Some opening.hosts }
+no_hosts opening = record (no_header SecondFormat) { hosts = Some opening.hosts }
 
 abbrev no_shards : Opening → Header
-no_shards opening = record no_header { hosts = Some opening.hosts; lanes = Some opening.lanes }
+no_shards opening = record (no_header SecondFormat) { hosts = Some opening.hosts; lanes = Some opening.lanes }
 
 abbrev no_members : Opening → Header
-no_members opening = record no_header { hosts = Some opening.hosts; lanes = Some opening.lanes; shards = Some opening.shards }
+no_members opening = record (no_header SecondFormat) { hosts = Some opening.hosts; lanes = Some opening.lanes; shards = Some opening.shards }
 
 counts_lead : (opening : Opening) → IsValidOpening opening → Leads schedules 1 Nothing (count_lines opening) (InHeader (no_members opening))
 unfolding header_line
 counts_lead opening valid = (
-  InHeader no_header,
-  (SaidFormat, refl, refl),
+  InHeader (no_header SecondFormat),
+  (SaidFormat SecondFormat, (SecondFormat, refl, refl), refl),
   (
     InHeader (no_hosts opening),
     (
       SaidHeader (SaidHosts opening.hosts),
       (
         SaidHosts opening.hosts,
-        (HostsWord, refl, (opening.hosts, spells_count (2 ^ 16) 64 opening.hosts Hosts valid.topology.hosts.0 valid.topology.hosts.1 (omega arith) (omega arith), refl)),
+        (HostsWord, refl, (opening.hosts, spells_count (2 ^ 16) (most_hosts SecondFormat) opening.hosts Hosts valid.topology.hosts.0 valid.topology.hosts.1 (omega arith) (omega arith), refl)),
         refl,
       ),
       refl,
@@ -331,7 +333,7 @@ members_lead opening number valid = (
 )
 
 abbrev pub body_of : Opening → Body
-body_of opening = record { opening = opening; labels = no_labels; lines = [] }
+body_of opening = record { format = SecondFormat; opening = opening; labels = no_labels; lines = [] }
 
 go_leads : (opening : Opening) (number : ℕ) (placed : List (TableId × TabletId)) → Leads schedules number (InHeader (header_at opening opening.tables placed)) ((codes "go" ∷ []) ∷ []) (InBody (body_of opening))
 unfolding header_line

@@ -17,7 +17,7 @@ use Rattle.base_ids.specs.declared.ids.Version.{Version}
 use Rattle.cell_merge.specs.declared.cell.Body.{Body}
 use Rattle.cell_merge.specs.declared.cell.Body.TheVariants.{Dead, Live}
 use Rattle.cell_merge.specs.declared.cell.Cell.{Cell}
-use Rattle.report_text.specs.Report.{cell_text}
+use Rattle.schedule_words.specs.Texts.{cell_text}
 use Rattle.schedule_data.specs.declared.data.LineRef.TheVariants.{Journal as InJournal}
 use Rattle.schedule_words.proofs.TokenLemmas.{token_told}
 use Rattle.schedule_words.specs.Labels.{LineOf}
@@ -66,13 +66,10 @@ digit_colon_free : (byte : ℕ) → IsDigit byte → byte ≢ 58
 digit_colon_free byte is = λ e. let high : byte ≤ 57 = is.1 in omega arith
 
 decimal_cut : (separator n : ℕ) (back : List ℕ) → n < 2 ^ 64 → ((byte : ℕ) → IsDigit byte → byte ≢ separator) → IsCut separator (decimal n ++ separator ∷ back) (decimal n) back
-decimal_cut separator n back fits free =
-    let some : 0 < length (decimal n) = decimal_nonempty n fits in
-    record {
-      spelt = refl;
-      free = all_weaker IsDigit (λ byte. byte ≢ separator) free (decimal n) (digits_of_decimal n fits);
-      some = omega arith;
-    }
+decimal_cut separator n back fits free = record {
+  spelt = refl;
+  free = all_weaker IsDigit (λ byte. byte ≢ separator) free (decimal n) (digits_of_decimal n fits);
+}
 
 -- ---- numbers
 
@@ -114,7 +111,7 @@ pub is_any_host : (h : HostId) → h.0 < 2 ^ 16 → Is any_host (spelt_host h) h
 unfolding any_host
 is_any_host h fits = (h.0, is_number (2 ^ 16) h.0 fits (omega arith), refl)
 
-pub is_host : (hosts : ℕ) (h : HostId) → h.0 < hosts → hosts ≤ 64 → Is (host hosts) (spelt_host h) h
+pub is_host : (hosts : ℕ) (h : HostId) → h.0 < hosts → hosts ≤ 256 → Is (host hosts) (spelt_host h) h
 unfolding host
 is_host hosts h few small =
     (h, is_any_host h (omega arith), passes (nat_lt h.0 hosts) BadActor h (below h.0 hosts few))
@@ -130,7 +127,7 @@ is_any_lane l fits few = (
   (l.lane, is_number (2 ^ 8) l.lane few (omega arith), refl),
 )
 
-pub is_lane : (counts : Counts) (l : LaneId) → l.host.0 < counts.hosts → counts.hosts ≤ 64 → l.lane < counts.lanes → counts.lanes ≤ 4 → Is (lane counts) (spelt_lane l) l
+pub is_lane : (counts : Counts) (l : LaneId) → l.host.0 < counts.hosts → counts.hosts ≤ 256 → l.lane < counts.lanes → counts.lanes ≤ 4 → Is (lane counts) (spelt_lane l) l
 unfolding lane
 is_lane counts l few small less least = (
   l,
@@ -239,12 +236,7 @@ is_body : (z : ℤ) (bytes back : List ℕ) → FitsSigned z → IsCut 58 (signe
 is_body z bytes back fits = record {
   spelt = refl;
   free = all_weaker IsSignOrDigit (λ byte. byte ≢ 58) colon_free (signed_decimal z) (signs_of_signed z fits);
-  some = some_signed z fits;
 }
-  where
-    some_signed : (z : ℤ) → FitsSigned z → 1 ≤ length (signed_decimal z)
-    some_signed (pos n) fits = let some : 0 < length (decimal n) = decimal_nonempty n (omega arith) in omega arith
-    some_signed (negsuc n) fits = omega arith
 
 live_told : (z : ℤ) (bytes : List ℕ) → FitsSigned z → (signed_by (size_of z).0 (size_of z).1 >>= live_by (Some bytes)) ≡ Ok (record { timestamp = z; body = Live bytes })
 live_told z bytes fits = ap (λ (found : Result ℤ Fault). found >>= live_by (Some bytes)) (signed_again z fits)
@@ -254,8 +246,8 @@ dead_told z time fits few =
     ap (λ (found : Result ℤ Fault). found >>= dead_by time) (signed_again z fits)
     ∙ passes (nat_lt time (2 ^ 32)) BadNumber (record { timestamp = z; body = Dead time }) (below time (2 ^ 32) few)
 
-kind_cut : (word back : List ℕ) → IsFree 58 word → 1 ≤ length word → IsCut 58 (word ++ 58 ∷ back) word back
-kind_cut word back free some = record { spelt = refl; free = free; some = some }
+kind_cut : (word back : List ℕ) → IsFree 58 word → IsCut 58 (word ++ 58 ∷ back) word back
+kind_cut word back free = record { spelt = refl; free = free }
 
 live_free : IsFree 58 (codes "live")
 live_free = (λ e. omega arith, (λ e. omega arith, (λ e. omega arith, (λ e. omega arith, tt))))
@@ -269,7 +261,7 @@ is_cell_by z (Live bytes) fits all = (
   codes "live",
   signed_decimal z ++ 58 ∷ encode_lower bytes,
   LiveWord,
-  kind_cut (codes "live") (signed_decimal z ++ 58 ∷ encode_lower bytes) live_free (omega arith),
+  kind_cut (codes "live") (signed_decimal z ++ 58 ∷ encode_lower bytes) live_free,
   refl,
   (
     signed_decimal z,
@@ -284,7 +276,7 @@ is_cell_by z (Dead time) fits few = (
   codes "dead",
   signed_decimal z ++ 58 ∷ decimal time,
   DeadWord,
-  kind_cut (codes "dead") (signed_decimal z ++ 58 ∷ decimal time) dead_free (omega arith),
+  kind_cut (codes "dead") (signed_decimal z ++ 58 ∷ decimal time) dead_free,
   refl,
   (
     signed_decimal z,

@@ -24,9 +24,12 @@ use Rattle.cluster_history.specs.declared.data.Event.TheVariants.{Answer, Apply,
 use Rattle.cluster_history.specs.declared.data.Opening.{Opening}
 use Rattle.cluster_history.specs.declared.data.Operation.{Operation}
 use Rattle.cluster_history.specs.declared.data.Operation.TheVariants.{Read, Write}
-use Rattle.report_text.specs.Report.{body_text}
+use Rattle.schedule_words.specs.Texts.{body_text}
+use Rattle.cluster_history.specs.Messages.{level_of}
+use Rattle.stage_graph.specs.declared.level.Level.{Level}
+use Rattle.stage_graph.specs.declared.level.Level.TheVariants.{One, Two, Three, Quorum, All as AtAll}
 use Rattle.schedule_write.specs.Events.{actor_words, spelt_command, event_words, operation_words, spelt_what}
-use Rattle.schedule_write.specs.Words.{spelt_host, spelt_lane, reference_word, replica_word, replica_words, spelt_resize, spelt_target}
+use Rattle.schedule_write.specs.Words.{spelt_host, spelt_lane, reference_word, replica_word, replica_words, spelt_level, spelt_resize, spelt_target}
 use Rattle.schedule_write.specs.Written.{first_replicas, header_lines, same_replicas, table_lines, spelt_tablet, tablet_lines}
 use Rattle.stage_graph.specs.declared.stage.Stage.{Stage}
 use Rattle.stage_graph.specs.declared.stage.Stage.TheVariants.{AllowWriteBothReadOld, Cleanup, CleanupTarget, EndMigration, FallbackCleanup, RevertMigration, Streaming, UseNew, WriteBothReadNew, WriteBothReadOld}
@@ -168,14 +171,21 @@ host_plain : (h : HostId) → h.0 < 2 ^ 16 → IsPlain (spelt_host h)
 host_plain h fits = number_plain h.0 (omega arith)
 
 operation_plain : (op : Operation) (rest : List (List ℕ)) → FitsOperation op → IsPlainLine rest → IsPlainLine (operation_words op ++ rest)
-operation_plain (Write t k c) rest fits more = (
+operation_plain (Write t k c level) rest fits more = (
   known (codes "write") refl,
   (small_number t.0 fits.0, (signed_plain k.value (token_fits k.value k.is_token), (cell_plain c.timestamp c.body fits.1.0 fits.1.1, more))),
 )
-operation_plain (Read t k) rest fits more = (
+operation_plain (Read t k level) rest fits more = (
   known (codes "read") refl,
   (small_number t.0 fits, (signed_plain k.value (token_fits k.value k.is_token), more)),
 )
+
+level_plain : (level : Level) → IsPlain (spelt_level level)
+level_plain One = known (codes "one") refl
+level_plain Two = known (codes "two") refl
+level_plain Three = known (codes "three") refl
+level_plain Quorum = known (codes "quorum") refl
+level_plain AtAll = known (codes "all") refl
 
 what_plain : (w : What) → FitsWhat w → IsPlainLine (spelt_what w)
 what_plain (DrainAsked v) fits = (known (codes "drain") refl, (number_plain v.0 fits, tt))
@@ -204,17 +214,17 @@ command_plain (FinalizeResize t s) fits fit =
 
 -- the hosts and lanes of the opening are few
 pub record IsSmall (opening : Opening) : Type 0 where
-  pub hosts : opening.hosts ≤ 64
+  pub hosts : opening.hosts ≤ 256
   pub lanes : opening.lanes ≤ 4
 
 host_there : (opening : Opening) → IsSmall opening → (h : HostId) → HasHost opening h → IsPlain (spelt_host h)
 host_there opening small h has =
-    let few : opening.hosts ≤ 64 = small.hosts in
+    let few : opening.hosts ≤ 256 = small.hosts in
     host_plain h (omega arith)
 
 lane_there : (opening : Opening) → IsSmall opening → (l : LaneId) → HasLane opening l → IsPlain (spelt_lane l)
 lane_there opening small l has =
-    let few : opening.hosts ≤ 64 = small.hosts in
+    let few : opening.hosts ≤ 256 = small.hosts in
     let least : opening.lanes ≤ 4 = small.lanes in
     let on : l.host.0 < opening.hosts = has.0 in
     let by : l.lane < opening.lanes = has.1 in
@@ -230,7 +240,8 @@ event_plain opening small (Begin l op v) has fit fits = (
   known (codes "begin") refl,
   (
     lane_there opening small l has,
-    operation_plain op (codes "at" ∷ decimal v.0 ∷ []) fits.0 (known (codes "at") refl, (number_plain v.0 fits.1, tt)),
+    operation_plain op (spelt_level (level_of op) ∷ codes "at" ∷ decimal v.0 ∷ []) fits.0
+        (level_plain (level_of op), (known (codes "at") refl, (number_plain v.0 fits.1, tt))),
   ),
 )
 event_plain opening small (Take l at) has fit fits =
@@ -261,7 +272,7 @@ event_plain opening small (Restart a) has fit fits = (known (codes "restart") re
 
 -- ---- the header
 
-known_fits : (opening : Opening) → opening.hosts ≤ 64 → opening.shards ≤ 16 → (replicas : List Replica) → list_all (is_known (opening_state opening)) replicas ≡ true → AllByRecursion FitsReplica replicas
+known_fits : (opening : Opening) → opening.hosts ≤ 256 → opening.shards ≤ 16 → (replicas : List Replica) → list_all (is_known (opening_state opening)) replicas ≡ true → AllByRecursion FitsReplica replicas
 known_fits opening small least [] all = tt
 known_fits opening small least (r ∷ replicas) all =
     let parts = both (is_known (opening_state opening) r) (list_all (is_known (opening_state opening)) replicas) all in
@@ -272,7 +283,7 @@ known_fits opening small least (r ∷ replicas) all =
     let shard_few : r.shard.0 < opening.shards = grind (arith, nat_tests) in
     ((omega arith, omega arith), known_fits opening small least replicas parts.1)
 
-tablet_plain : (opening : Opening) → opening.hosts ≤ 64 → opening.shards ≤ 16 → (tablet : Tablet) → IsTabletFit opening tablet → IsPlainLine (replica_words tablet.replicas)
+tablet_plain : (opening : Opening) → opening.hosts ≤ 256 → opening.shards ≤ 16 → (tablet : Tablet) → IsTabletFit opening tablet → IsPlainLine (replica_words tablet.replicas)
 tablet_plain opening small least tablet fit =
     replicas_plain tablet.replicas (known_fits opening small least tablet.replicas fit.known)
 
@@ -283,25 +294,25 @@ pub lines_append : (one other : List (List (List ℕ))) → ArePlainLines one �
 lines_append [] other all more = more
 lines_append (line ∷ one) other all more = (all.0, lines_append one other all.1 more)
 
-tablet_line_plain : (opening : Opening) → opening.hosts ≤ 64 → opening.shards ≤ 16 → (id : TableId) → id.0 < 2 ^ 32 → (usual : List Replica) (at : ℕ) → at < 2 ^ 64 → (tablet : Tablet) → IsTabletFit opening tablet → ArePlainLines (spelt_tablet id usual at tablet)
+tablet_line_plain : (opening : Opening) → opening.hosts ≤ 256 → opening.shards ≤ 16 → (id : TableId) → id.0 < 2 ^ 32 → (usual : List Replica) (at : ℕ) → at < 2 ^ 64 → (tablet : Tablet) → IsTabletFit opening tablet → ArePlainLines (spelt_tablet id usual at tablet)
 tablet_line_plain opening small least id fits usual at few tablet fit =
     elim (same_replicas usual tablet.replicas) as (λ (t : Bool). ArePlainLines (if t then [] else (codes "tablet" ∷ decimal id.0 ∷ decimal at ∷ replica_words tablet.replicas) ∷ [])) [
       | true ↦ tt
       | false ↦ ((known (codes "tablet") refl, (small_number id.0 fits, (number_plain at few, tablet_plain opening small least tablet fit))), tt)
     ]
 
-tablets_plain : (opening : Opening) → opening.hosts ≤ 64 → opening.shards ≤ 16 → (id : TableId) → id.0 < 2 ^ 32 → (usual : List Replica) (at : ℕ) (tablets : List Tablet) → at + length tablets < 2 ^ 64 → AllByRecursion (IsTabletFit opening) tablets → ArePlainLines (tablet_lines id usual at tablets)
+tablets_plain : (opening : Opening) → opening.hosts ≤ 256 → opening.shards ≤ 16 → (id : TableId) → id.0 < 2 ^ 32 → (usual : List Replica) (at : ℕ) (tablets : List Tablet) → at + length tablets < 2 ^ 64 → AllByRecursion (IsTabletFit opening) tablets → ArePlainLines (tablet_lines id usual at tablets)
 tablets_plain opening small least id fits usual at [] few fit = tt
 tablets_plain opening small least id fits usual at (tablet ∷ tablets) few fit =
     lines_append (spelt_tablet id usual at tablet) (tablet_lines id usual (at + 1) tablets)
     (tablet_line_plain opening small least id fits usual at (omega arith) tablet fit.0)
     (tablets_plain opening small least id fits usual (at + 1) tablets (omega arith) fit.1)
 
-first_plain : (opening : Opening) → opening.hosts ≤ 64 → opening.shards ≤ 16 → (tablets : List Tablet) → AllByRecursion (IsTabletFit opening) tablets → IsPlainLine (replica_words (tablet_in tablets 0).replicas)
+first_plain : (opening : Opening) → opening.hosts ≤ 256 → opening.shards ≤ 16 → (tablets : List Tablet) → AllByRecursion (IsTabletFit opening) tablets → IsPlainLine (replica_words (tablet_in tablets 0).replicas)
 first_plain opening small least [] fit = tt
 first_plain opening small least (tablet ∷ tablets) fit = tablet_plain opening small least tablet fit.0
 
-tables_plain : (opening : Opening) → opening.hosts ≤ 64 → opening.shards ≤ 16 → (tables : List Table) → AllByRecursion (IsTableFit opening) tables → ArePlainLines (flat_map table_lines tables)
+tables_plain : (opening : Opening) → opening.hosts ≤ 256 → opening.shards ≤ 16 → (tables : List Table) → AllByRecursion (IsTableFit opening) tables → ArePlainLines (flat_map table_lines tables)
 tables_plain opening small least [] fit = tt
 tables_plain opening small least (t ∷ tables) fit =
     let log : t.map.log2 ≤ 10 = fit.0.log2 in
@@ -312,7 +323,7 @@ tables_plain opening small least (t ∷ tables) fit =
     )
     (tables_plain opening small least tables fit.1)
 
-members_plain : (hosts : ℕ) → hosts ≤ 64 → (members : List HostId) → All (λ (h : HostId). h.0 < hosts) members → IsPlainLine (map spelt_host members)
+members_plain : (hosts : ℕ) → hosts ≤ 256 → (members : List HostId) → All (λ (h : HostId). h.0 < hosts) members → IsPlainLine (map spelt_host members)
 members_plain hosts small [] within = tt
 members_plain hosts small (h ∷ members) within =
     let few : h.0 < hosts = All-head (λ (x : HostId). x.0 < hosts) h members within in
@@ -320,10 +331,10 @@ members_plain hosts small (h ∷ members) within =
 
 pub header_plain : (opening : Opening) → IsValidOpening opening → AllByRecursion (IsTableFit opening) opening.tables → ArePlainLines (header_lines opening)
 header_plain opening valid fit =
-    let hosts : opening.hosts ≤ 64 = valid.topology.hosts.1 in
+    let hosts : opening.hosts ≤ 256 = valid.topology.hosts.1 in
     let lanes : opening.lanes ≤ 4 = valid.lanes.1 in
     let shards : opening.shards ≤ 16 = valid.topology.shards.1 in (
-      (known (codes "tablets") refl, (known (codes "1") refl, tt)),
+      (known (codes "tablets") refl, (known (codes "2") refl, tt)),
       (
         (known (codes "hosts") refl, (number_plain opening.hosts (omega arith), tt)),
         (

@@ -1,18 +1,18 @@
 use Rattle.std.proofs.Common.{None, Some}
 use Rattle.schedule_play.specs.Play.{AtLimit, AtRule, played}
-use Rattle.cluster_program.proofs.EndingLemmas.{came-at, came-front, front-at, front-starved, stopped-by-limit, stopped-by-memory, stopped-by-rule}
+use Rattle.cluster_program.proofs.EndingLemmas.{came-at, came-front, front-at, front-starved, stopped-at, stopped-by-limit, stopped-by-memory, stopped-by-rule, told-by-limit, told-by-rule}
 use Rattle.cluster_program.proofs.plays.play_on.Goals as goal
 
 pub returns-in-Ok-clause-came : goal.returns-in-Ok-clause-came
 returns-in-Ok-clause-came g c =
-    came-at c.args.form None (played c.args.schedule.now) _ _ _ _ _ c.in-Ok.ensures c.into_journal.ensures.same c.tell_whole.ensures.came
+    came-at c.args.form c.args.schedule.now None _ _ _ _ _ c.in-Ok.ensures c.into_journal.ensures.same c.tell_whole.ensures.came
 
 pub returns-in-Err-NotEnabled-clause-came : goal.returns-in-Err-NotEnabled-clause-came
 returns-in-Err-NotEnabled-clause-came g c =
     came-at
     c.args.form
+    c.args.schedule.now
     (Some (AtRule c.in-Err-NotEnabled.line c.in-Err-NotEnabled.rule))
-    (played c.args.schedule.now)
     _
     _
     _
@@ -20,14 +20,14 @@ returns-in-Err-NotEnabled-clause-came g c =
     _
     (stopped-by-rule c.in-Err-NotEnabled.field-0 c.in-Err-NotEnabled.line c.in-Err-NotEnabled.rule (played c.args.schedule.now) _ c.in-Err-NotEnabled.ensures c.in-Err-NotEnabled.field-0-is)
     c.into_journal-in-Err-NotEnabled.ensures.same
-    c.tell_rule.ensures.came
+    (stopped-at c.args.form c.args.schedule.now (AtRule c.in-Err-NotEnabled.line c.in-Err-NotEnabled.rule) _ _ _ _ (told-by-rule c.in-Err-NotEnabled.field-0 c.in-Err-NotEnabled.line c.in-Err-NotEnabled.rule _ _ _ _ c.in-Err-NotEnabled.field-0-is c.tell_rule.ensures.came))
 
 pub returns-in-Err-Limit-clause-came : goal.returns-in-Err-Limit-clause-came
 returns-in-Err-Limit-clause-came g c =
     came-at
     c.args.form
+    c.args.schedule.now
     (Some (AtLimit c.in-Err-Limit.name))
-    (played c.args.schedule.now)
     _
     _
     _
@@ -35,13 +35,13 @@ returns-in-Err-Limit-clause-came g c =
     _
     (stopped-by-limit c.in-Err-Limit.field-0 c.in-Err-Limit.name (played c.args.schedule.now) _ c.in-Err-Limit.ensures c.in-Err-Limit.field-0-is)
     c.into_journal-in-Err-Limit.ensures.same
-    c.tell_limit.ensures.came
+    (stopped-at c.args.form c.args.schedule.now (AtLimit c.in-Err-Limit.name) _ _ _ _ (told-by-limit c.in-Err-Limit.field-0 c.in-Err-Limit.name _ _ _ _ c.in-Err-Limit.field-0-is c.tell_limit.ensures.came))
 
 pub returns-in-Err-NoMemory-clause-came : goal.returns-in-Err-NoMemory-clause-came
 returns-in-Err-NoMemory-clause-came g c =
     came-front
     c.args.form
-    (played c.args.schedule.now)
+    c.args.schedule.now
     _
     _
     _
