@@ -1,9 +1,0 @@
-mod chunks;
-mod cluster;
-mod coordinators;
-mod driving;
-mod fixtures;
-mod hosts;
-mod lanes;
-mod moves;
-mod resizes;
