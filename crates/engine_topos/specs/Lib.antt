@@ -1,0 +1,4 @@
+pub mod Notes
+pub mod Turns
+pub mod Acts
+pub mod Clocks
