@@ -1,0 +1,3 @@
+pub mod RepairLemmas
+pub mod RunLemmas
+pub mod CountedLemmas

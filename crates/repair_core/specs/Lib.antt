@@ -1,0 +1,3 @@
+pub mod Repairs
+pub mod Laws
+pub mod Counted
