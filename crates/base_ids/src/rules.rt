@@ -72,7 +72,7 @@ impl EventRule {
 pub enum LimitName {
     /// At most 4194304 bytes are read.
     Input,
-    /// At most 64 hosts.
+    /// At most 64 hosts in version 1 of the schedule text, 256 in version 2.
     Hosts,
     /// At most 4 lanes a host.
     Lanes,
