@@ -52,12 +52,12 @@ fn runs_are_written_as_their_single_events(rt: HostRuntime) -> Result<(), Fail> 
 }
 
 /// Hosts 0 to 3, and table 1 of one tablet on the first three.
-const FOUR: &[u8] = b"tablets 1\nhosts 4\nlanes 1\ntable 1 0 0:0 1:0 2:0\ngo\n";
+const FOUR: &[u8] = b"tablets 2\nhosts 4\nlanes 1\ntable 1 0 0:0 1:0 2:0\ngo\n";
 
 /// What is played first, a shorthand after it, and its events one by one.
 type Pair = (&'static [u8], &'static [u8], &'static [u8]);
 
-const PAIRS: [Pair; 3] = [
+const PAIRS: [Pair; 4] = [
     // Host 3 is no member any more, which no host knows, and it drains as the others do.
     (
         b"drain 0\npropose 0 leave 3\n",
@@ -82,6 +82,13 @@ apply 3\napply 3\ns: ask 2 3 fence 2\nd: answer 3 s.0\nhear 2 d.0\n",
         b"ready 1 1\n",
         b"apply 0\np: ask 1 0 ready 1\na: answer 0 p.0\nhear 1 a.0\napply 1\nq: ask 1 1 ready 1\nb: answer 1 q.0\n\
 hear 1 b.0\napply 2\nr: ask 1 2 ready 1\nc: answer 2 r.0\nhear 1 c.0\n",
+    ),
+    // One of two hosts that answer a read has a cell, which is then written to both.
+    (
+        b"w: begin 0.0 write 1 5 live:10:61\nserve 0 w.0\n",
+        b"mono 1.0 1 5\n",
+        b"r: begin 1.0 read 1 5\na: serve 0 r.0\ntake 1.0 a.0\nb: serve 1 r.1\ntake 1.0 b.0\n\
+v: begin 1.0 write 1 5 live:10:61\nc: serve 0 v.0\ntake 1.0 c.0\nd: serve 1 v.1\ntake 1.0 d.0\n",
     ),
 ];
 

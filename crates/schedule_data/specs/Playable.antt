@@ -14,7 +14,7 @@ use Rattle.schedule_data.specs.declared.data.LineRef.TheVariants.{Journal, Line}
 use Rattle.schedule_data.specs.declared.data.SchedLine.{SchedLine}
 use Rattle.schedule_data.specs.declared.data.Schedule.{Schedule}
 use Rattle.schedule_data.specs.declared.data.Shorthand.{Shorthand}
-use Rattle.schedule_data.specs.declared.data.Shorthand.TheVariants.{Do, Drain, Fence, Force, Ready, Step, Stream, Sync, Tidy}
+use Rattle.schedule_data.specs.declared.data.Shorthand.TheVariants.{Do, Drain, Fence, Force, Mono, Ready, Step, Stream, Sync, Tidy}
 use Rattle.topo_state.specs.Rules.{IsFit}
 
 -- ---- whom a line names
@@ -41,6 +41,7 @@ line_actor (Restart actor) = actor
 abbrev pub HasOwner : Opening → Shorthand → Type 0
 HasOwner opening Sync = Unit {0}
 HasOwner opening (Do lane operation) = HasLane opening lane
+HasOwner opening (Mono lane table token) = HasLane opening lane
 HasOwner opening (Drain topo) = HasHost opening topo
 HasOwner opening (Fence topo) = HasHost opening topo
 HasOwner opening (Step topo command) = HasHost opening topo

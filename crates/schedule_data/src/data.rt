@@ -1,7 +1,8 @@
 //! Schedules, their lines, and what a line says.
 use barrier_core::What;
-use base_ids::{Actor, HostId, Items, LaneId, MsgRef, OpId, Session, Version};
+use base_ids::{Actor, HostId, Items, LaneId, MsgRef, OpId, Session, TableId, Version};
 use cluster_history::{Opening, Operation};
+use token_ring::Token;
 use topo_state::Command;
 
 /// What is to be played: how the cluster stands at first, and what happens line by line.
@@ -167,6 +168,16 @@ pub enum Shorthand {
         lane: LaneId,
         /// What the client asks.
         operation: Operation,
+    },
+    /// A lane reads at a majority, and where the read finds a cell it writes that cell back at a majority: both with all
+    /// that follows, as a request by itself.
+    Mono {
+        /// The lane.
+        lane: LaneId,
+        /// The table that is read.
+        table: TableId,
+        /// The token that is read.
+        token: Token,
     },
     /// A coordinator hears from each host that its lanes have left the versions before the log's last one.
     Drain(HostId),

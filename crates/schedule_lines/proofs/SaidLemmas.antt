@@ -20,7 +20,7 @@ use Rattle.schedule_data.specs.declared.data.LineEvent.{LineEvent}
 use Rattle.schedule_data.specs.declared.data.LineRef.{LineRef}
 use Rattle.schedule_data.specs.declared.data.SchedLine.{SchedLine}
 use Rattle.schedule_data.specs.declared.data.Shorthand.{Shorthand}
-use Rattle.schedule_lines.specs.Forms.{First, OfEvent, OfLabel, OfShort, act_by, act_form, actor, actor_by, advance, ask, at_version, begin, begin_at, begin_by, begin_with, command, command_by, create, do_at, do_form, event, event_by, finalize, host_event, lane_event, host_named, of_command, of_host, of_lane, of_lane_message, of_lane_request, of_message, of_session, of_version, operation, operation_by, read_form, resize, set_fence, short_by, start, topo_event, what, what_by, what_session, what_version, write}
+use Rattle.schedule_lines.specs.Forms.{First, OfEvent, OfLabel, OfShort, act_by, act_form, actor, actor_by, advance, ask, at_version, begin, begin_at, begin_by, begin_with, command, command_by, create, do_at, do_form, event, event_by, finalize, host_event, lane_event, host_named, mono_form, of_command, of_host, of_lane, of_lane_message, of_lane_request, of_message, of_session, of_version, operation, operation_by, read_form, resize, set_fence, short_by, start, topo_event, what, what_by, what_session, what_version, write}
 use Rattle.schedule_lines.specs.Said.{AreCountsOf, AreLabelsOf, IsSaidAct}
 use Rattle.schedule_lines.specs.declared.verbs.ActorWord.{ActorWord}
 use Rattle.schedule_lines.specs.declared.verbs.ActorWord.TheVariants.{Host as HostWord, Lane as LaneWord, Topo as TopoWord}
@@ -38,7 +38,7 @@ use Rattle.schedule_lines.specs.declared.verbs.LaneVerb.TheVariants.{Begin as Be
 use Rattle.schedule_lines.specs.declared.verbs.OperationVerb.{OperationVerb}
 use Rattle.schedule_lines.specs.declared.verbs.OperationVerb.TheVariants.{Read as ReadVerb, Write as WriteVerb}
 use Rattle.schedule_lines.specs.declared.verbs.ShortVerb.{ShortVerb}
-use Rattle.schedule_lines.specs.declared.verbs.ShortVerb.TheVariants.{Do as DoVerb, Drain as DrainVerb, Fence as FenceVerb, Force as ForceVerb, Ready as ReadyVerb, Step as StepVerb, Stream as StreamVerb, Sync as SyncVerb, Tidy as TidyVerb}
+use Rattle.schedule_lines.specs.declared.verbs.ShortVerb.TheVariants.{Do as DoVerb, Drain as DrainVerb, Fence as FenceVerb, Force as ForceVerb, Mono as MonoVerb, Ready as ReadyVerb, Step as StepVerb, Stream as StreamVerb, Sync as SyncVerb, Tidy as TidyVerb}
 use Rattle.schedule_lines.specs.declared.verbs.TopoVerb.{TopoVerb}
 use Rattle.schedule_lines.specs.declared.verbs.TopoVerb.TheVariants.{Ask as AskVerb, Hear as HearVerb, Look as LookVerb, Propose as ProposeVerb}
 use Rattle.schedule_lines.specs.declared.verbs.WhatVerb.{WhatVerb}
@@ -232,9 +232,10 @@ abbrev IsShortSaid : Opening → Shorthand → Type 0
 IsShortSaid opening s = HasOwner opening s × IsFitLine opening (Short s)
 
 short_said : (opening : Opening) (counts : Counts) (same : AreCountsOf opening counts) (verb : ShortVerb) → AllTell (IsShortSaid opening) (short_by counts verb)
-unfolding do_form do_at of_host of_command of_session
+unfolding do_form do_at mono_form of_host of_command of_session
 short_said opening counts same SyncVerb = (tt, tt)
 short_said opening counts same DoVerb = λ w l is. operation_tells (IsShortSaid opening) _ (λ op. ((lane_in opening counts same w l is, tt), λ u level js. (lane_in opening counts same w l is, tt)))
+short_said opening counts same MonoVerb = λ w l is u t js v k ks. (lane_in opening counts same w l is, tt)
 short_said opening counts same DrainVerb = λ w h is. (host_in opening counts same w h is, tt)
 short_said opening counts same FenceVerb = λ w h is. (host_in opening counts same w h is, tt)
 short_said opening counts same StepVerb = λ w h is.

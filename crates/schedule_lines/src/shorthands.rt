@@ -3,7 +3,7 @@ ghost use Rattle.std.specs.Prelude.{◌≡◌};
 ghost use Rattle.text_grammar.specs.Cuts.{words_of};
 ghost use Rattle.text_grammar.specs.Readings.{reading};
 ghost use Rattle.text_grammar.specs.Results.{Gives};
-ghost use Rattle.schedule_lines.specs.Forms.{do_at, do_form, short_by};
+ghost use Rattle.schedule_lines.specs.Forms.{do_at, do_form, mono_form, short_by};
 
 use crate::operations::{operation_at, with_level};
 use crate::parts::{of_command, of_host, of_session};
@@ -11,7 +11,7 @@ use crate::verbs::ShortVerb;
 use base_ids::LaneId;
 use cluster_history::Operation;
 use schedule_data::Shorthand;
-use schedule_words::{Counts, Format, lane, level_in};
+use schedule_words::{Counts, Format, lane, level_in, table_number, token};
 use std::alloc::Global;
 use text_grammar::{Fault, LineError, TextRule, is_end, next_word, no_word};
 
@@ -51,6 +51,21 @@ fn do_form(counts: &Counts, words: &[u8]) -> Result<Shorthand, Fault>
     do_at(counts.format, lane, operation, words)
 }
 
+/// A repaired read, `L T TOKEN`.
+#[tactic(auto, unfolding(crate::specs::Forms::mono_form))]
+fn mono_form(counts: &Counts, words: &[u8]) -> Result<Shorthand, Fault>
+    ensures { result ≡ reading (mono_form counts.now) (words_of words.now) }
+{
+    let (word, words) = next_word(words)?;
+    let lane = lane(counts, word)?;
+    let (word, words) = next_word(words)?;
+    let table = table_number(word)?;
+    let (word, words) = next_word(words)?;
+    let token = token(word)?;
+    no_word(words)?;
+    Ok(Shorthand::Mono { lane, table, token })
+}
+
 /// A shorthand, by its first word.
 pub fn short_by(
     alloc: Global,
@@ -66,6 +81,7 @@ pub fn short_by(
             Ok(Shorthand::Sync)
         }
         ShortVerb::Do => Ok(do_form(counts, words)?),
+        ShortVerb::Mono => Ok(mono_form(counts, words)?),
         ShortVerb::Drain => Ok(Shorthand::Drain(of_host(counts, words)?)),
         ShortVerb::Fence => Ok(Shorthand::Fence(of_host(counts, words)?)),
         ShortVerb::Step => {

@@ -4,21 +4,29 @@ use Rattle.base_ids.specs.declared.ids.HostId.{HostId}
 use Rattle.base_ids.specs.declared.ids.LaneId.{LaneId}
 use Rattle.base_ids.specs.declared.ids.MsgRef.{MsgRef}
 use Rattle.base_ids.specs.declared.ids.OpId.{OpId}
+use Rattle.cell_merge.specs.declared.cell.Cell.{Cell}
 use Rattle.cluster_history.specs.Held.{has_done}
 use Rattle.cluster_history.specs.History.{output_at}
 use Rattle.cluster_history.specs.Legal.{history_of}
 use Rattle.cluster_history.specs.Requests.{is_live}
-use Rattle.cluster_history.specs.Topology.{applied_count, log_of}
+use Rattle.cluster_history.specs.Topology.{applied_count, log_of, version_of}
 use Rattle.cluster_history.specs.declared.data.Event.{Event}
-use Rattle.cluster_history.specs.declared.data.Event.TheVariants.{Answer, Apply, Clean, Hear, Pull, Serve, Take, TakeChunk}
+use Rattle.cluster_history.specs.declared.data.Event.TheVariants.{Answer, Apply, Begin, Clean, Hear, Pull, Serve, Take, TakeChunk}
 use Rattle.cluster_history.specs.declared.data.Journal.{Journal}
 use Rattle.cluster_history.specs.declared.data.Message.{Message}
 use Rattle.cluster_history.specs.declared.data.Message.TheVariants.{Read as ReadSent, Write as WriteSent}
+use Rattle.cluster_history.specs.declared.data.Operation.{Operation}
+use Rattle.cluster_history.specs.declared.data.Operation.TheVariants.{Write}
 use Rattle.cluster_history.specs.declared.data.Output.{Output}
-use Rattle.cluster_history.specs.declared.data.Output.TheVariants.{Sent}
+use Rattle.cluster_history.specs.declared.data.Output.TheVariants.{Reply as Replied, Sent}
+use Rattle.quorum_ops.specs.Follows.{follow_up}
+use Rattle.quorum_ops.specs.declared.follow.Follow.{Follow}
+use Rattle.quorum_ops.specs.declared.follow.Follow.TheVariants.{Answered, Ended, WriteBack as ToWriteBack}
+use Rattle.schedule_play.specs.declared.tasks.RepairedRead.{RepairedRead}
 use Rattle.schedule_play.specs.declared.tasks.Task.{Task}
 use Rattle.schedule_play.specs.declared.tasks.Target.{Target}
-use Rattle.schedule_play.specs.declared.tasks.Task.TheVariants.{AnswerNewest, CatchUp, CleanNewest, HearNewest, Play, PullOn, ServeChunk, ServeTarget, TakeAnswer, TakeNewestChunk}
+use Rattle.schedule_play.specs.declared.tasks.Task.TheVariants.{AnswerNewest, CatchUp, CleanNewest, HearNewest, Play, PullOn, ServeChunk, ServeTarget, TakeAnswer, TakeNewestChunk, WriteBack}
+use Rattle.stage_graph.specs.declared.level.Level.TheVariants.{Quorum}
 
 -- the message that the newest entry sent first
 abbrev pub newest : Journal → MsgRef
@@ -66,6 +74,25 @@ abbrev pub serve_turn : Target → Option HostId → Option Turn
 serve_turn target None = None
 serve_turn target (Some host) = Some (Serve host (ask_at target), Some (TakeAnswer target))
 
+-- what follows an output of a read: nothing where it is no reply
+abbrev pub follow_of : Option Output → Follow
+follow_of (Some (Replied op version kind reply)) = follow_up reply
+follow_of output = Ended
+
+-- the write of the cell that a read found
+abbrev pub written_back : RepairedRead → Cell → Operation
+written_back read cell = Write read.table read.token cell Quorum
+
+-- where a cell is to be written back: the next entry is the begin of that write at the version that the host is at, and
+-- its targets follow
+abbrev pub write_back_turn : Journal → RepairedRead → Follow → Option Turn
+write_back_turn journal read (ToWriteBack cell) = Some (
+  Begin read.lane (written_back read cell) (version_of journal.opening (history_of journal) read.lane.host),
+  Some (ServeTarget (record { lane = read.lane; begun = length journal.entries + 1; place = 0 })),
+)
+write_back_turn journal read Answered = None
+write_back_turn journal read Ended = None
+
 -- The next event of a task after a journal, or none where nothing is left of it.
 abbrev pub turn : Journal → Task → Option Turn
 -- this event
@@ -79,6 +106,9 @@ turn journal (HearNewest topo) = Some (Hear topo (newest journal), None)
 -- from this target on, as long as the request is not decided: the target serves its ask, and the lane takes the answer
 turn journal (ServeTarget target) = serve_turn target (target_of journal target)
 turn journal (TakeAnswer target) = Some (Take target.lane (newest journal), Some (ServeTarget (behind target)))
+-- the newest entry has the read's reply as its first output: it says whether a cell is written back
+turn journal (WriteBack read) =
+    write_back_turn journal read (follow_of (output_at (history_of journal) (newest journal)))
 -- as long as the host has no done pull of the session: it pulls, the other host serves, and it takes the chunk
 turn journal (PullOn pull) =
     if has_done journal.opening (history_of journal) pull.host pull.session

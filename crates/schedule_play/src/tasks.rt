@@ -5,12 +5,16 @@ ghost use Rattle.cluster_history.specs.Legal.{IsLegalRun, history_of};
 ghost use Rattle.cluster_history.specs.Openings.{HasHost, HasLane};
 ghost use Rattle.cluster_machine.specs.Step.{most_entries};
 ghost use Rattle.schedule_play.specs.Fits.{AreFit, IsFitTask, IsFitNext, IsNextOf};
-ghost use Rattle.schedule_play.specs.Tasks.{ask_at, asked_by, asked_in, behind, is_behind, newest, target_of, turn};
+ghost use Rattle.schedule_play.specs.Tasks.{ask_at, asked_by, asked_in, behind, follow_of, is_behind, newest, target_of, turn, written_back};
 
-use base_ids::{HostId, Items, LaneId, MsgRef, NoMemory, OpId, Session};
-use cluster_history::{Event, Message, Output};
+use base_ids::{HostId, Items, LaneId, MsgRef, NoMemory, OpId, Session, TableId};
+use cell_merge::Cell;
+use cluster_history::{Event, Message, Operation, Output};
 use cluster_machine::Machine;
 use host_ties::law_host_pulls;
+use quorum_ops::{Follow, follow_up};
+use stage_graph::Level;
+use token_ring::Token;
 
 /// A target of a request that was begun.
 #[derive(Clone, Copy, Debug)]
@@ -34,6 +38,17 @@ pub(crate) struct Streaming {
     pub(crate) session: Session,
 }
 
+/// A read whose cell is to be written back.
+#[derive(Clone, Copy, Debug)]
+pub(crate) struct RepairedRead {
+    /// The lane that read.
+    pub(crate) lane: LaneId,
+    /// The table that was read.
+    pub(crate) table: TableId,
+    /// The token that was read.
+    pub(crate) token: Token,
+}
+
 /// What a shorthand has still to do.
 #[derive(Debug, Drop)]
 pub(crate) enum Task {
@@ -51,6 +66,9 @@ pub(crate) enum Task {
     ServeTarget(Target),
     /// The lane takes the newest message, and the targets behind this one follow.
     TakeAnswer(Target),
+    /// Where the newest entry's reply is that of a read which found a cell, the lane begins to write it back, and the
+    /// targets of that write follow.
+    WriteBack(RepairedRead),
     /// A host pulls chunk by chunk until its pull is done.
     PullOn(Streaming),
     /// The other host serves the newest message, and the pull goes on.
@@ -165,6 +183,59 @@ fn target_of(machine: &Machine, target: Target) -> Option<HostId>
     }
 }
 
+/// What follows an output of a read: nothing where it is no reply.
+fn follow_of(output: Option<&Output>) -> Follow
+    ensures { result ≡ follow_of (option_copied output.entry) }
+{
+    match output {
+        Some(Output::Reply { reply, .. }) => follow_up(reply),
+        Some(Output::Sent(_)) | Some(Output::Pulled { .. }) | Some(Output::Proposed(_)) => {
+            Follow::Ended
+        }
+        None => Follow::Ended,
+    }
+}
+
+/// The write of the cell that a read found.
+fn written_back(read: RepairedRead, cell: &Cell) -> Operation
+    ensures { result ≡ written_back read cell.now }
+{
+    Operation::Write {
+        table: read.table,
+        token: read.token,
+        cell: *cell,
+        level: Level::Quorum,
+    }
+}
+
+/// The begin of the write that repairs a read, with its targets behind it, where the read found a cell.
+fn write_back_turn(machine: &Machine, read: RepairedRead) -> Option<(Event, Option<Task>)>
+    requires { HasLane machine.now.opening read.lane }
+    ensures { result ≡ turn machine.now (Task.WriteBack read) }
+{
+    match follow_of(machine.output_at(newest(machine))) {
+        Follow::WriteBack(ref cell) => {
+            let lane = read.lane;
+            let operation = written_back(read, cell);
+            let version = machine.version(lane.host);
+            let begun = machine.journal().entries.as_slice().len() as u64 + 1;
+            Some((
+                Event::Begin {
+                    lane,
+                    operation,
+                    version,
+                },
+                Some(Task::ServeTarget(Target {
+                    lane,
+                    begun,
+                    place: 0,
+                })),
+            ))
+        }
+        Follow::Answered | Follow::Ended => None,
+    }
+}
+
 /// The next event of a task, and what is then left of the task; `None` where nothing is left of it.
 fn turn(machine: &Machine, first: Task) -> Option<(Event, Option<Task>)>
     requires fit { IsFitTask machine.now.opening (length machine.now.entries) first }
@@ -198,6 +269,7 @@ fn turn(machine: &Machine, first: Task) -> Option<(Event, Option<Task>)>
                 Some(Task::ServeTarget(behind(target))),
             ))
         }
+        Task::WriteBack(read) => write_back_turn(machine, read),
         Task::PullOn(pull) => pull_turn(machine, pull),
         Task::ServeChunk(pull) => {
             let host = pull.from;

@@ -1,8 +1,9 @@
 -- What a line says in the first format, it says in the second one too.
-use Rattle.std.proofs.Common.{◌≡◌, ℕ, ◌+◌, ◌≤◌, ◌^◌, Bool, true, false, ◌&&◌, nat_le, List, [], ◌∷◌, ◌++◌, Option, Some, None, Ok, refl, sym, ap, subst, ◌∙◌, arith, if◌then◌else◌, codes}
+use Rattle.std.proofs.Common.{◌≡◌, ℕ, ◌+◌, ◌≤◌, ◌^◌, Bool, true, false, ◌&&◌, nat_le, List, [], ◌∷◌, ◌++◌, Option, Some, None, Ok, Err, refl, sym, ap, subst, ◌∙◌, arith, if◌then◌else◌, codes}
 use Rattle.std.proofs.lemmas.Bool.Decides.{nat_tests}
+use Rattle.std.proofs.lemmas.Slice.Eq.{bytes_eq-Decides}
 use Rattle.std.specs.List.{list_all}
-use Rattle.std.specs.Option.{option_map}
+use Rattle.std.specs.Option.{is_some, option_map, option_or}
 use Rattle.std.specs.Str.{bytes_eq}
 use Rattle.base_ids.specs.declared.ids.Actor.{Actor}
 use Rattle.base_ids.specs.declared.ids.LaneId.{LaneId}
@@ -18,8 +19,8 @@ use Rattle.schedule_data.specs.declared.data.Shorthand.{Shorthand}
 use Rattle.schedule_data.specs.declared.data.Shorthand.TheVariants.{Do}
 use Rattle.schedule_header.specs.Forms.{count, count_by, count_line, first_word, format_of, header_line, line_by, most_hosts, named_tablet, replicas_line, table_line, table_replica, tablet_line, verb_if}
 use Rattle.schedule_header.specs.Header.{Header, Said as HeaderSaid, SaidGo, SaidHosts, SaidLanes, SaidMembers, SaidShards, SaidTable, SaidTablet, no_header}
-use Rattle.schedule_lines.specs.Forms.{First, OfEvent, OfLabel, OfShort, act_by, act_form, actor, actor_by, ask, begin, begin_by, do_at, do_form, event, event_by, host_event, lane_event, of_command, of_host, of_lane, of_lane_message, of_lane_request, of_message, of_session, of_version, operation, operation_by, read_form, short_by, topo_event, write, first_act_word}
-use Rattle.schedule_lines.specs.Verbs.{actor_word, behind_word, event_word, operation_word}
+use Rattle.schedule_lines.specs.Forms.{First, OfEvent, OfLabel, OfShort, act_by, act_form, actor, actor_by, ask, begin, begin_by, do_at, do_form, event, event_by, host_event, lane_event, mono_form, new_label, of_command, of_host, of_lane, of_lane_message, of_lane_request, of_message, of_session, of_version, operation, operation_by, read_form, short_by, topo_event, write, by_event, by_short, first_act_word}
+use Rattle.schedule_lines.specs.Verbs.{actor_word, behind_word, event_word, first_short_word, operation_word, second_short_word}
 use Rattle.schedule_lines.specs.declared.verbs.ActorWord.{ActorWord}
 use Rattle.schedule_lines.specs.declared.verbs.ActorWord.TheVariants.{Host as HostWord, Lane as LaneWord, Topo as TopoWord}
 use Rattle.schedule_lines.specs.declared.verbs.Behind.{Behind}
@@ -33,12 +34,12 @@ use Rattle.schedule_lines.specs.declared.verbs.LaneVerb.TheVariants.{Begin as Be
 use Rattle.schedule_lines.specs.declared.verbs.OperationVerb.{OperationVerb}
 use Rattle.schedule_lines.specs.declared.verbs.OperationVerb.TheVariants.{Read as ReadVerb, Write as WriteVerb}
 use Rattle.schedule_lines.specs.declared.verbs.ShortVerb.{ShortVerb}
-use Rattle.schedule_lines.specs.declared.verbs.ShortVerb.TheVariants.{Do as DoVerb, Drain as DrainVerb, Fence as FenceVerb, Force as ForceVerb, Ready as ReadyVerb, Step as StepVerb, Stream as StreamVerb, Sync as SyncVerb, Tidy as TidyVerb}
+use Rattle.schedule_lines.specs.declared.verbs.ShortVerb.TheVariants.{Do as DoVerb, Drain as DrainVerb, Fence as FenceVerb, Force as ForceVerb, Mono as MonoVerb, Ready as ReadyVerb, Step as StepVerb, Stream as StreamVerb, Sync as SyncVerb, Tidy as TidyVerb}
 use Rattle.schedule_lines.specs.declared.verbs.TopoVerb.{TopoVerb}
 use Rattle.schedule_lines.specs.declared.verbs.TopoVerb.TheVariants.{Ask as AskVerb, Hear as HearVerb, Look as LookVerb, Propose as ProposeVerb}
 use Rattle.schedule_words.specs.Labels.{LineOf}
 use Rattle.schedule_words.specs.Places.{cell, lane, number, one_of, table_number, token}
-use Rattle.schedule_words.specs.Words.{header_word, level_in}
+use Rattle.schedule_words.specs.Words.{header_word, label_of, level_in, meaning}
 use Rattle.schedule_words.specs.declared.counts.Counts.{Counts}
 use Rattle.schedule_words.specs.declared.counts.Format.{Format}
 use Rattle.schedule_words.specs.declared.counts.Format.TheVariants.{One as FirstFormat, Two as SecondFormat}
@@ -49,7 +50,8 @@ use Rattle.text_grammar.proofs.TextLaws.{lines_found}
 use Rattle.text_grammar.specs.Judging.{if_so, if_within}
 use Rattle.text_grammar.specs.Lines.{Leads, Line, Makes, are_ascii, is_comment}
 use Rattle.text_grammar.specs.Readings.{or_rule, ◌>>=◌}
-use Rattle.text_grammar.specs.Shapes.{Either, EndOr, Known, Place, Shape, Spells, Word}
+use Rattle.text_grammar.specs.Shapes.{Either, EndOr, Place, Shape, Spells, Word}
+use Rattle.text_grammar.specs.declared.faults.Fault.TheVariants.{Refused}
 use Rattle.text_grammar.specs.declared.faults.TextRule.TheVariants.{BadHeader, BadWord, NoHeader}
 use Rattle.schedule_text.specs.Language.{InBody, InHeader, LineSaid, Nothing, SaidAct, SaidFormat, SaidHeader, State, after_line, finish, form_at, schedules}
 use Rattle.schedule_text.specs.Migration.{SaySame, format_line, is_passed}
@@ -81,6 +83,22 @@ known_behind w behind is =
       | true ↦ λ e. e
       | false ↦ λ e. cc e
     ] is
+
+-- `mono` is no label
+mono_is_none : (labels : LineOf) (w : List ℕ) → bytes_eq w (codes "mono") ≡ true → new_label labels (label_of w) ≡ Err (Refused BadWord)
+mono_is_none labels w e = subst (λ (v : List ℕ). new_label labels (label_of v) ≡ Err (Refused BadWord)) (sym ((bytes_eq-Decides w (codes "mono")).0 e)) refl
+
+-- the word of a shorthand, or a new label
+known_short : (labels : LineOf) (w : List ℕ) (first : First) → by_short labels w (first_short_word w) ≡ Ok first → by_short labels w (second_short_word w) ≡ Ok first
+known_short labels w first is = by_word (first_short_word w) is
+  where
+    by_mono : (t : Bool) → bytes_eq w (codes "mono") ≡ t → new_label labels (label_of w) ≡ Ok first → by_short labels w (if t then Some MonoVerb else None) ≡ Ok first
+    by_mono true same e = cc (sym (mono_is_none labels w same) ∙ e)
+    by_mono false other e = e
+
+    by_word : (found : Option ShortVerb) → by_short labels w found ≡ Ok first → by_short labels w (option_or found (meaning ((codes "mono", MonoVerb) ∷ []) w)) ≡ Ok first
+    by_word (Some verb) e = e
+    by_word None e = by_mono (bytes_eq w (codes "mono")) refl e
 
 -- what stands behind an operation that begins, and behind one that is done
 abbrev begin_end : Format → LaneId → Operation → Shape LineEvent
@@ -156,9 +174,10 @@ module _ (hosts lanes : ℕ) (labels : LineOf) where
   event_more RestartVerb = restart_more
 
   short_more : (verb : ShortVerb) (words : Line) (e : Shorthand) → Spells (short_by (counts_in FirstFormat hosts lanes) verb) words e → Spells (short_by (counts_in SecondFormat hosts lanes) verb) words e
-  unfolding do_form lane of_host of_command of_session
+  unfolding do_form mono_form lane of_host of_command of_session
   short_more SyncVerb words e s = s
   short_more DoVerb words e s = word_more (lane (counts_in SecondFormat hosts lanes)) (λ l. operation (do_end FirstFormat l)) (λ l. operation (do_end SecondFormat l)) (λ l. operation_more (do_end FirstFormat l) (do_end SecondFormat l) (do_more l)) words e s
+  short_more MonoVerb words e s = s
   short_more DrainVerb words e s = s
   short_more FenceVerb words e s = s
   short_more StepVerb words e s = s
@@ -173,9 +192,21 @@ module _ (hosts lanes : ℕ) (labels : LineOf) where
   act_more (OfShort verb) words a (x, s, is) = (x, short_more verb words x s, is)
   act_more (OfLabel name) words a (x, s, is) = (x, word_more (one_of event_word) (event_by (counts_in FirstFormat hosts lanes) labels) (event_by (counts_in SecondFormat hosts lanes) labels) event_more words x s, is)
 
+  first_known : (w : List ℕ) (first : First) → first_act_word FirstFormat labels w ≡ Ok first → first_act_word SecondFormat labels w ≡ Ok first
+  first_known w first is = by_header (is_some (header_word w)) is
+    where
+      by_verb : (verb : Option EventVerb) → by_event FirstFormat labels w verb ≡ Ok first → by_event SecondFormat labels w verb ≡ Ok first
+      by_verb (Some verb) e = e
+      by_verb None e = known_short labels w first e
+
+      by_header : (t : Bool) → (if t then Err (Refused BadHeader) else by_event FirstFormat labels w (event_word w)) ≡ Ok first → (if t then Err (Refused BadHeader) else by_event SecondFormat labels w (event_word w)) ≡ Ok first
+      by_header true e = cc e
+      by_header false e = by_verb (event_word w) e
+
   act_line_more : (words : Line) (a : Option (List ℕ) × LineAct) → Spells (act_form (counts_in FirstFormat hosts lanes) labels) words a → Spells (act_form (counts_in SecondFormat hosts lanes) labels) words a
   unfolding act_form
-  act_line_more = word_more (Known (first_act_word labels)) (act_by (counts_in FirstFormat hosts lanes) labels) (act_by (counts_in SecondFormat hosts lanes) labels) act_more
+  act_line_more [] a s = s
+  act_line_more (w ∷ words) a (first, is, s) = (first, first_known w first is, act_more first words a s)
 
 -- ---- lines of the header
 
