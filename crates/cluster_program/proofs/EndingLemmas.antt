@@ -15,7 +15,7 @@ use Rattle.schedule_text.specs.Code.{CodeFailsAs}
 use Rattle.schedule_text.specs.declared.errors.ParseError.{ParseError}
 use Rattle.schedule_text.specs.declared.errors.ParseError.TheVariants.{Limit as ParseLimit, NoMemory as ParseNoMemory, Refused as ParseRefused}
 use Rattle.text_grammar.specs.Folds.{LineFault}
-use Rattle.cluster_program.specs.Endings.{Ending, ending_at, stopped_ending, no_journal, play_ending}
+use Rattle.cluster_program.specs.Endings.{Ending, ending_at, stopped_ending, no_journal, play_ending, whole_ending}
 use Rattle.cluster_program.specs.Readings.{reading_ending}
 use Rattle.cluster_program.specs.Outcomes.{CameTo, CameToFault, IsSaidOrCut}
 use Rattle.cluster_program.specs.Status.{status_number}
@@ -212,3 +212,14 @@ pub front-starved :
     IsFrontOf outcome.journal whole.journal
 front-starved whole after journal outcome front same starved =
     subst (λ j. IsFrontOf j whole.journal) (sym (ap (λ o. o.journal) starved ∙ same)) front
+
+-- ---- where memory is refused after a whole play
+
+-- a play that ended whole, and memory was refused after it
+pub came-whole :
+    (form : Form) (schedule : Schedule) (journal whole : Journal) (outcome : Outcome) (a : SinkAccount) →
+    journal ≡ whole →
+    outcome ≡ record { status = status_number NoMemory; journal = journal } →
+    CameTo (whole_ending form schedule whole) outcome a a
+came-whole form schedule journal whole outcome a same starved =
+    came-after (whole_ending form schedule whole) journal outcome a starved (subst (λ j. IsFrontOf journal j) same (front-of-itself journal))

@@ -7,7 +7,7 @@ use Rattle.cluster_history.specs.Legal.{opening_journal}
 use Rattle.cluster_history.specs.declared.data.Journal.{Journal}
 use Rattle.cluster_history.specs.declared.data.Opening.{Opening}
 use Rattle.command_words.specs.declared.words.Command.{Command}
-use Rattle.command_words.specs.declared.words.Command.TheVariants.{Gen, Play}
+use Rattle.command_words.specs.declared.words.Command.TheVariants.{Balance, Gen, Play, Reads}
 use Rattle.schedule_data.specs.declared.data.Schedule.{Schedule}
 use Rattle.schedule_gen.specs.Schedule.{schedule_text}
 use Rattle.schedule_play.specs.Play.{AtLimit, AtRule, Stop, played}
@@ -18,7 +18,7 @@ use Rattle.cluster_program.specs.Texts.{form_lines, limit_line, read_fault_line,
 use Rattle.cluster_program.specs.declared.status.Status.{Status}
 use Rattle.cluster_program.specs.declared.status.Status.TheVariants.{Done, Limit, NotEnabled, ReadFault, Refused, Usage}
 use Rattle.cluster_program.specs.declared.texts.Form.{Form}
-use Rattle.cluster_program.specs.declared.texts.Form.TheVariants.{Report, Summary}
+use Rattle.cluster_program.specs.declared.texts.Form.TheVariants.{Planned, Repaired, Report, Summary}
 
 -- the status, the journal that is kept, and all that is to be written
 pub record Ending : Type 0 where
@@ -94,11 +94,21 @@ IsTextEnding form text ending =
     ((schedule : Schedule) × IsScheduleText text schedule × (ending ≡ play_ending form schedule))
     ⊎ ((line : ℕ) × (fault : Fault) × IsFaultAt text line fault × (ending ≡ fault_ending line fault))
 
--- how `play` is to end on a text: more bytes came than are read, or else as the text says
-abbrev pub IsPlayEnding : List ℕ → Ending → Type 0
-IsPlayEnding text ending =
+-- how a command that reads is to end on a text: more bytes came than are read, or else as the text says
+abbrev pub IsReadEnding : Form → List ℕ → Ending → Type 0
+IsReadEnding form text ending =
     ((input_limit < length text) × (ending ≡ input_ending))
-    ⊎ ((length text ≤ input_limit) × IsTextEnding Report text ending)
+    ⊎ ((length text ≤ input_limit) × IsTextEnding form text ending)
+
+-- how `play`, `reads` and `balance` are to end on a text
+abbrev pub IsPlayEnding : List ℕ → Ending → Type 0
+IsPlayEnding text ending = IsReadEnding Report text ending
+
+abbrev pub IsReadsEnding : List ℕ → Ending → Type 0
+IsReadsEnding text ending = IsReadEnding Repaired text ending
+
+abbrev pub IsBalanceEnding : List ℕ → Ending → Type 0
+IsBalanceEnding text ending = IsReadEnding Planned text ending
 
 -- how `gen` is to end on a number
 abbrev pub IsGenEnding : ℕ → Ending → Type 0
@@ -109,3 +119,5 @@ abbrev pub IsCommandEnding : Option Command → List ℕ → Ending → Type 0
 IsCommandEnding None text ending = ending ≡ usage_ending
 IsCommandEnding (Some Play) text ending = IsPlayEnding text ending
 IsCommandEnding (Some (Gen n)) text ending = IsGenEnding n ending
+IsCommandEnding (Some Reads) text ending = IsReadsEnding text ending
+IsCommandEnding (Some Balance) text ending = IsBalanceEnding text ending

@@ -1,11 +1,14 @@
 -- How a call is to end is one ending.
 use Rattle.std.specs.Prelude.{List, Option, ℕ, ◌≡◌}
 use Rattle.command_words.specs.declared.words.Command.{Command}
-use Rattle.cluster_program.specs.Endings.{Ending, IsCommandEnding, IsGenEnding, IsPlayEnding}
+use Rattle.cluster_program.specs.Endings.{Ending, IsCommandEnding, IsGenEnding, IsReadEnding}
+use Rattle.cluster_program.specs.declared.texts.Form.{Form}
 
--- `play` ends on each text in one way at most
-abbrev pub PlayEndsOneWay : Type 0
-PlayEndsOneWay = (text : List ℕ) (one other : Ending) → IsPlayEnding text one → IsPlayEnding text other → one ≡ other
+-- a command that reads ends on each text in one way at most
+abbrev pub ReadEndsOneWay : Type 0
+ReadEndsOneWay =
+    (form : Form) (text : List ℕ) (one other : Ending)
+    → IsReadEnding form text one → IsReadEnding form text other → one ≡ other
 
 -- `gen` ends on each number in one way at most
 abbrev pub GenEndsOneWay : Type 0

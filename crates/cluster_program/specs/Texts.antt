@@ -9,6 +9,7 @@ use Rattle.base_ids.specs.declared.rules.LimitName.{LimitName}
 use Rattle.cluster_history.specs.Legal.{history_of}
 use Rattle.cluster_history.specs.Topology.{last_state, log_of}
 use Rattle.cluster_history.specs.declared.data.Journal.{Journal}
+use Rattle.further_report.specs.Lines.{balance_lines, repaired_lines}
 use Rattle.report_text.specs.Report.{reply_count, report, report_lines}
 use Rattle.schedule_data.specs.declared.data.LineAct.{LineAct}
 use Rattle.schedule_data.specs.declared.data.LineAct.TheVariants.{Event, Short}
@@ -22,12 +23,12 @@ use Rattle.text_grammar.specs.declared.faults.TextRule.{TextRule}
 use Rattle.topo_state.specs.declared.command.Command.{Command}
 use Rattle.topo_state.specs.declared.command.Command.TheVariants.{Advance}
 use Rattle.cluster_program.specs.declared.texts.Form.{Form}
-use Rattle.cluster_program.specs.declared.texts.Form.TheVariants.{Report, Summary}
+use Rattle.cluster_program.specs.declared.texts.Form.TheVariants.{Planned, Repaired, Report, Summary}
 
 -- ---- where a text or a play stops
 
 abbrev pub usage_line : List ℕ
-usage_line = codes "usage: play | run | trace | gen N\n"
+usage_line = codes "usage: play | run | trace | gen N | reads | balance\n"
 
 abbrev pub read_fault_line : List ℕ
 read_fault_line = codes "read-fault\n"
@@ -103,7 +104,17 @@ summary_line n schedule journal =
 
 -- ---- a play that came to its end
 
+-- the report, and a line for each repaired read
+abbrev pub reads_report : Journal → List (List ℕ)
+reads_report journal = report journal ++ repaired_lines (history_of journal)
+
+-- the report, and the lines of the plan that evens out the tablets of the log's last state
+abbrev pub balance_report : Journal → List (List ℕ)
+balance_report journal = report journal ++ balance_lines (last_state journal.opening (history_of journal))
+
 -- what is written of it
 abbrev pub form_lines : Form → Schedule → Journal → List (List ℕ)
 form_lines Report schedule journal = report journal
 form_lines (Summary n) schedule journal = summary_line n schedule journal ∷ []
+form_lines Repaired schedule journal = reads_report journal
+form_lines Planned schedule journal = balance_report journal

@@ -1,18 +1,22 @@
 //! What is written at the end of a call.
-ghost use Rattle.std.specs.Prelude.{◌≡◌, ◌≤◌, OnErr, OnOk, Some, None};
+ghost use Rattle.std.specs.Prelude.{◌≡◌, ◌≢◌, ◌≤◌, OnErr, OnOk, Some, None};
 ghost use Rattle.std.specs.List.{concat};
+ghost use Rattle.cluster_history.specs.Legal.{IsLegalRun};
 ghost use Rattle.fault_io.specs.Counts.{Rose};
 ghost use Rattle.fault_io.specs.Written.{AddsPart, content_after};
 ghost use Rattle.schedule_play.specs.Play.{AtLimit, AtRule};
 ghost use Rattle.cluster_program.specs.Endings.{early, no_journal, stopped_ending, usage_ending, whole_ending};
 ghost use Rattle.cluster_program.specs.Outcomes.{CameTo, CameToError, CameToFault, IsSaidOrCut};
+ghost use Rattle.cluster_program.specs.Program.{end_state};
 ghost use Rattle.cluster_program.specs.Texts.{limit_line, refused_line};
+ghost use Rattle.topo_state.specs.Sound.{IsTopology};
 
 use crate::outcome::{Outcome, ended, no_journal, starved};
 use crate::status::Status;
 use crate::texts::{Form, form_lines, limit_line, lines_to_limit, lines_to_rule, refused_line};
 use base_ids::{EventRule, LimitName, Line, NoMemory};
 use cluster_history::Journal;
+use cluster_machine::Machine;
 use fault_io::{ReadError, Sink, WriteFault, write_all};
 use schedule_data::Schedule;
 use schedule_text::ParseError;
@@ -56,20 +60,34 @@ fn finish<K: Sink>(sink: &mut K, lines: &[Line], status: Status, journal: Journa
     ended(status, journal, written)
 }
 
+/// The journal of a machine. The state that its log came to is sound.
+pub(crate) fn kept_journal(machine: Machine) -> Journal
+    ensures same { result ≡ machine }
+    ensures legal { IsLegalRun result }
+    ensures sound { IsTopology (end_state result) }
+{
+    let _tables = machine.log().state().tables();
+    machine.into_journal()
+}
+
 /// Writes what is wanted of a schedule's play that came to its end.
 pub(crate) fn tell_whole<K: Sink>(
     alloc: Global,
     form: Form,
     schedule: &Schedule,
-    journal: Journal,
+    machine: Machine,
     sink: &mut K,
 ) -> Outcome
-    ensures came { CameTo (whole_ending form schedule.now journal) result
+    ensures came { CameTo (whole_ending form schedule.now machine) result
         (K.account sink.old) (K.account sink.new) }
-    ensures journal { result.journal ≡ journal }
+    ensures journal { result.journal ≡ machine }
+    ensures legal { IsLegalRun result.journal }
+    ensures sound { IsTopology (end_state result.journal) }
     ensures later { (K.account sink.old).faults ≤ (K.account sink.new).faults }
 {
-    match form_lines(alloc, form, schedule, &journal) {
+    let lines = form_lines(alloc, form, schedule, &machine);
+    let journal = kept_journal(machine);
+    match lines {
         Ok(lines) => finish(sink, lines.as_slice(), Status::Done, journal),
         Err(NoMemory) => starved(journal),
     }
@@ -142,6 +160,7 @@ fn limit<K: Sink>(alloc: Global, name: LimitName, sink: &mut K) -> Outcome
 /// Tells why a text says no schedule.
 pub(crate) fn not_parsed<K: Sink>(alloc: Global, error: ParseError, sink: &mut K) -> Outcome
     ensures came { CameToFault error result (K.account sink.old) (K.account sink.new) }
+    ensures early { result.status ≢ 0 }
     ensures journal { result.journal ≡ no_journal }
     ensures later { (K.account sink.old).faults ≤ (K.account sink.new).faults }
 {
@@ -155,6 +174,7 @@ pub(crate) fn not_parsed<K: Sink>(alloc: Global, error: ParseError, sink: &mut K
 /// Tells why a source was not read whole.
 pub(crate) fn not_read<K: Sink>(alloc: Global, error: ReadError, sink: &mut K) -> Outcome
     ensures came { CameToError error result (K.account sink.old) (K.account sink.new) }
+    ensures early { result.status ≢ 0 }
     ensures journal { result.journal ≡ no_journal }
     ensures later { (K.account sink.old).faults ≤ (K.account sink.new).faults }
 {
@@ -172,6 +192,6 @@ pub(crate) fn say_usage<K: Sink>(alloc: Global, sink: &mut K) -> Outcome
     ensures journal { result.journal ≡ no_journal }
     ensures later { (K.account sink.old).faults ≤ (K.account sink.new).faults }
 {
-    let usage = b"usage: play | run | trace | gen N\n";
+    let usage = b"usage: play | run | trace | gen N | reads | balance\n";
     say(sink, usage, Status::Usage, no_journal(alloc))
 }

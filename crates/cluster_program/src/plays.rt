@@ -6,8 +6,10 @@ ghost use Rattle.schedule_play.specs.Play.{IsFrontOf, played};
 ghost use Rattle.cluster_program.specs.Endings.{play_ending};
 ghost use Rattle.cluster_program.specs.Readings.{reading_ending, schedule_reading};
 ghost use Rattle.cluster_program.specs.Outcomes.{CameTo};
+ghost use Rattle.cluster_program.specs.Program.{end_state};
+ghost use Rattle.topo_state.specs.Sound.{IsTopology};
 
-use crate::endings::{not_parsed, tell_limit, tell_rule, tell_whole};
+use crate::endings::{kept_journal, not_parsed, tell_limit, tell_rule, tell_whole};
 use crate::opening::copy_opening;
 use crate::outcome::{Outcome, no_journal, starved};
 use crate::texts::Form;
@@ -42,15 +44,16 @@ fn play_on<K: Sink>(
     ensures came { CameTo (play_ending form schedule.now) result (K.account sink.old) (K.account sink.new) }
     ensures front { IsFrontOf result.journal (played schedule.now).journal }
     ensures legal { IsLegalRun result.journal }
+    ensures sound { IsTopology (end_state result.journal) }
     ensures later { (K.account sink.old).faults ≤ (K.account sink.new).faults }
 {
     match play(alloc, schedule, &mut machine) {
-        Ok(()) => tell_whole(alloc, form, schedule, machine.into_journal(), sink),
+        Ok(()) => tell_whole(alloc, form, schedule, machine, sink),
         Err(PlayError::NotEnabled { line, rule }) => {
-            tell_rule(alloc, machine.into_journal(), line, rule, sink)
+            tell_rule(alloc, kept_journal(machine), line, rule, sink)
         }
-        Err(PlayError::Limit { name }) => { tell_limit(alloc, machine.into_journal(), name, sink) }
-        Err(PlayError::NoMemory) => starved(machine.into_journal()),
+        Err(PlayError::Limit { name }) => { tell_limit(alloc, kept_journal(machine), name, sink) }
+        Err(PlayError::NoMemory) => starved(kept_journal(machine)),
     }
 }
 
@@ -59,6 +62,7 @@ fn play_schedule<K: Sink>(alloc: Global, form: Form, schedule: &Schedule, sink: 
     requires { IsPlayable schedule.now }
     ensures came { CameTo (play_ending form schedule.now) result (K.account sink.old) (K.account sink.new) }
     ensures legal { IsLegalRun result.journal }
+    ensures sound { result.status ≡ 0 → IsTopology (end_state result.journal) }
     ensures later { (K.account sink.old).faults ≤ (K.account sink.new).faults }
 {
     match machine_of(alloc, schedule) {
@@ -72,6 +76,7 @@ pub(crate) fn play_text<K: Sink>(alloc: Global, form: Form, bytes: &[u8], sink: 
     ensures came { CameTo (reading_ending form (schedule_reading bytes.now)) result (K.account sink.old)
         (K.account sink.new) }
     ensures legal { IsLegalRun result.journal }
+    ensures sound { result.status ≡ 0 → IsTopology (end_state result.journal) }
     ensures later { (K.account sink.old).faults ≤ (K.account sink.new).faults }
 {
     match parse(alloc, bytes) {

@@ -2,10 +2,12 @@
 ghost use Rattle.std.specs.Prelude.{◌≡◌, ◌++◌, ◌∷◌, [], IfOk};
 ghost use Rattle.report_text.specs.Report.{report_lines};
 ghost use Rattle.schedule_play.specs.Play.{AtLimit, AtRule};
-ghost use Rattle.cluster_program.specs.Texts.{counts_line, ends_move, form_lines, is_move_end, limit_line, moved_count, not_enabled_line, refused_line, says_move_end, stopped_lines, summary_line};
+ghost use Rattle.cluster_program.specs.Texts.{balance_report, counts_line, ends_move, form_lines, is_move_end, limit_line, moved_count, not_enabled_line, reads_report, refused_line, says_move_end, stopped_lines, summary_line};
 
 use base_ids::{EventRule, Items, LimitName, Line, NoMemory};
 use cluster_history::Journal;
+use cluster_machine::Machine;
+use further_report::{add_balance, add_repaired};
 use report_text::{LineList, Tally, end_tally, lines, report_lines};
 use schedule_data::{LineAct, LineEvent, SchedLine, Schedule, Shorthand};
 use std::alloc::Global;
@@ -19,6 +21,10 @@ pub enum Form {
     Report,
     /// One line of counts, for the made schedule of this number.
     Summary(u64),
+    /// Its report, and a line for each repaired read.
+    Repaired,
+    /// Its report, and the plan that evens out the tablets.
+    Planned,
 }
 
 /// The line that tells which rule a line of the text breaks.
@@ -162,22 +168,42 @@ fn summary_line(
     counts_line(alloc, n, events, tally, moved_count(schedule))
 }
 
+/// The report of a journal, and a line for each repaired read.
+fn reads_lines(alloc: Global, journal: &Journal) -> Result<LineList, NoMemory>
+    ensures { IfOk result (λ lines. lines ≡ reads_report journal.now) }
+{
+    let mut all = lines(alloc, journal)?;
+    add_repaired(alloc, journal, &mut all)?;
+    Ok(all)
+}
+
+/// The report of the machine's journal, and the lines of the plan that evens out the tablets of its log's state.
+fn balance_lines(alloc: Global, machine: &Machine) -> Result<LineList, NoMemory>
+    ensures { IfOk result (λ lines. lines ≡ balance_report machine.now) }
+{
+    let mut all = lines(alloc, machine.journal())?;
+    add_balance(alloc, machine.log().state(), &mut all)?;
+    Ok(all)
+}
+
 /// What is written of a schedule's play that came to its end.
 pub(crate) fn form_lines(
     alloc: Global,
     form: Form,
     schedule: &Schedule,
-    journal: &Journal,
+    machine: &Machine,
 ) -> Result<LineList, NoMemory>
-    ensures { IfOk result (λ lines. lines ≡ form_lines form schedule.now journal.now) }
+    ensures { IfOk result (λ lines. lines ≡ form_lines form schedule.now machine.now) }
 {
     match form {
-        Form::Report => lines(alloc, journal),
+        Form::Report => lines(alloc, machine.journal()),
         Form::Summary(n) => {
             let mut lines = Items::new(alloc);
-            let line = summary_line(alloc, n, schedule, journal)?;
+            let line = summary_line(alloc, n, schedule, machine.journal())?;
             lines.push(line)?;
             Ok(lines)
         }
+        Form::Repaired => reads_lines(alloc, machine.journal()),
+        Form::Planned => balance_lines(alloc, machine),
     }
 }

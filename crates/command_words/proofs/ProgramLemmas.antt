@@ -25,9 +25,9 @@ use Rattle.clap.specs.Walk.{Held, Names, Row, Rule, Text, Walk, after_flag, afte
 use Rattle.clap.proofs.OnLiterals.{clap_on_literals}
 use Rattle.clap.proofs.WalkLemmas.{both, first_value-rows, walk_stopped}
 use Rattle.command_words.specs.Program.{command_found, command_named, is_plain, number_rule, plain_texts, program}
-use Rattle.command_words.specs.Words.{asked_command, if_wide, number_of}
+use Rattle.command_words.specs.Words.{asked_alone, asked_command, if_wide, number_of}
 use Rattle.command_words.specs.declared.words.Command.{Command}
-use Rattle.command_words.specs.declared.words.Command.TheVariants.{Gen, Play}
+use Rattle.command_words.specs.declared.words.Command.TheVariants.{Balance, Gen, Play, Reads}
 use Rattle.text_grammar.proofs.Numerals.{number_told}
 use Rattle.text_grammar.specs.Readings.{unsigned_of}
 use Rattle.text_grammar.specs.Words.{AreDigits, IsDigit}
@@ -124,8 +124,9 @@ settings s = record s {
 abbrev number_place : Rule
 number_place = with_index 1 (filled number_rule)
 
-abbrev play : Shape
-play = settings (new_shape (codes "play"))
+-- a command with no words of its own
+abbrev alone : Text → Shape
+alone name = settings (new_shape name)
 
 abbrev gen : Shape
 gen = record (settings (new_shape (codes "gen"))) { rules = number_place ∷ [] }
@@ -150,23 +151,50 @@ module _ (s : Shape) (rest : List Text)
   pub finds : subcommand_of program (s.name ∷ rest) ≡ entered (built program) (Some (s.name, rest))
   finds = ap (entered (built program)) stops
 
-play_stops : walked [] names (walk_from nothing_held) (codes "play") ≡ record (walk_from nothing_held) { stopped = Some (codes "play", []) }
+-- a word that names a command stops the walk there
+abbrev Stops : Text → Type 0
+Stops name = walked [] names (walk_from nothing_held) name ≡ record (walk_from nothing_held) { stopped = Some (name, []) }
+
+play_stops : Stops (codes "play")
 unfolding clap_on_literals
 play_stops = refl
 
-gen_stops : walked [] names (walk_from nothing_held) (codes "gen") ≡ record (walk_from nothing_held) { stopped = Some (codes "gen", []) }
+gen_stops : Stops (codes "gen")
 unfolding clap_on_literals
 gen_stops = refl
 
--- `play` has no words
+reads_stops : Stops (codes "reads")
+unfolding clap_on_literals
+reads_stops = refl
+
+balance_stops : Stops (codes "balance")
+unfolding clap_on_literals
+balance_stops = refl
+
+-- a command with no words of its own has none
+no_words : (name : Text) (word : Text) (rest : List Text) → list_all is_plain (word ∷ rest) ≡ true → passes (alone name) (word ∷ rest) → ⊥
+unfolding walk_fault
+no_words name word rest texts level =
+    let turn = first_passes _ _ (first_passes _ _ level) in
+    wants_place (alone name) (λ _. refl) (λ _. refl) [] None word [] refl (not_options word rest texts) 1 refl turn
+
 play_read : (rest : List Text) → list_all is_plain rest ≡ true → fault_of program (codes "play" ∷ rest) ≡ []
     → command_found (subcommand_of program (codes "play" ∷ rest)) ≡ asked_command (codes "play" ∷ rest)
-unfolding walk_fault
-play_read [] texts e = rw (finds play [] play_stops) refl
+play_read [] texts e = rw (finds (alone (codes "play")) [] play_stops) refl
 play_read (word ∷ rest) texts e =
-    let level : passes play (word ∷ rest) = enters play (word ∷ rest) play_stops e in
-    let turn = first_passes _ _ (first_passes _ _ level) in
-    absurd (wants_place play (λ _. refl) (λ _. refl) [] None word [] refl (not_options word rest texts) 1 refl turn)
+    absurd (no_words (codes "play") word rest texts (enters (alone (codes "play")) (word ∷ rest) play_stops e))
+
+reads_read : (rest : List Text) → list_all is_plain rest ≡ true → fault_of program (codes "reads" ∷ rest) ≡ []
+    → command_found (subcommand_of program (codes "reads" ∷ rest)) ≡ asked_command (codes "reads" ∷ rest)
+reads_read [] texts e = rw (finds (alone (codes "reads")) [] reads_stops) refl
+reads_read (word ∷ rest) texts e =
+    absurd (no_words (codes "reads") word rest texts (enters (alone (codes "reads")) (word ∷ rest) reads_stops e))
+
+balance_read : (rest : List Text) → list_all is_plain rest ≡ true → fault_of program (codes "balance" ∷ rest) ≡ []
+    → command_found (subcommand_of program (codes "balance" ∷ rest)) ≡ asked_command (codes "balance" ∷ rest)
+balance_read [] texts e = rw (finds (alone (codes "balance")) [] balance_stops) refl
+balance_read (word ∷ rest) texts e =
+    absurd (no_words (codes "balance") word rest texts (enters (alone (codes "balance")) (word ∷ rest) balance_stops e))
 
 -- where the number's word stands
 abbrev numbered : Text → Held
@@ -205,33 +233,39 @@ gen_read (word ∷ other ∷ rest) texts e =
 
 -- the program is not called by another first word
 other_fails : (word : Text) (rest : List Text) → bytes_eq (codes "play") word ≡ false → bytes_eq (codes "gen") word ≡ false
+    → bytes_eq (codes "reads") word ≡ false → bytes_eq (codes "balance") word ≡ false
     → list_all is_plain (word ∷ rest) ≡ true → fault_of program (word ∷ rest) ≡ [] → ⊥
 unfolding walk_fault
-other_fails word rest no_play no_gen texts e =
+other_fails word rest no_play no_gen no_reads no_balance texts e =
     let turn = first_passes _ _ (first_passes _ _ e) in
-    wants_place top (λ _. refl) (λ _. refl) [] None word names (rw (no_play, no_gen) refl) (not_options word rest texts) 1 refl turn
+    wants_place top (λ _. refl) (λ _. refl) [] None word names (rw (no_play, no_gen, no_reads, no_balance) refl)
+    (not_options word rest texts) 1 refl turn
 
--- what is found where the program takes the words
-pub read_as_asked : (words : List Text) → list_all is_plain words ≡ true → fault_of program words ≡ []
-    → command_found (subcommand_of program words) ≡ asked_command words
+-- what is found where the program takes the words is what they ask
+abbrev IsReadAsAsked : List Text → Type 0
+IsReadAsAsked words = command_found (subcommand_of program words) ≡ asked_command words
+
+-- a first word that names a command is read as that name
+by_name : (name word : Text) (rest : List Text) → bytes_eq name word ≡ true → fault_of program (word ∷ rest) ≡ []
+    → (fault_of program (name ∷ rest) ≡ [] → IsReadAsAsked (name ∷ rest)) → IsReadAsAsked (word ∷ rest)
+by_name name word rest same e read =
+    let is : name ≡ word = (bytes_eq-Decides _ _).0 same in
+    subst (λ w. IsReadAsAsked (w ∷ rest)) is (read (subst (λ w. fault_of program (w ∷ rest) ≡ []) (sym is) e))
+
+pub read_as_asked : (words : List Text) → list_all is_plain words ≡ true → fault_of program words ≡ [] → IsReadAsAsked words
 read_as_asked [] texts e = refl
-read_as_asked (word ∷ rest) texts e = by_play (bytes_eq (codes "play") word) refl
+read_as_asked (word ∷ rest) texts e =
+    by (both _ _ texts).1 (bytes_eq (codes "play") word) (bytes_eq (codes "gen") word) (bytes_eq (codes "reads") word)
+    (bytes_eq (codes "balance") word) refl refl refl refl
   where
-    by_gen : (t : Bool) → bytes_eq (codes "gen") word ≡ t → bytes_eq (codes "play") word ≡ false
-        → command_found (subcommand_of program (word ∷ rest)) ≡ asked_command (word ∷ rest)
-    by_gen true same no_play =
-        let is : codes "gen" ≡ word = (bytes_eq-Decides _ _).0 same in
-        subst (λ w. command_found (subcommand_of program (w ∷ rest)) ≡ asked_command (w ∷ rest)) is
-        (gen_read rest (both _ _ texts).1 (subst (λ w. fault_of program (w ∷ rest) ≡ []) (sym is) e))
-    by_gen false same no_play = absurd (other_fails word rest no_play same texts e)
-
-    by_play : (t : Bool) → bytes_eq (codes "play") word ≡ t
-        → command_found (subcommand_of program (word ∷ rest)) ≡ asked_command (word ∷ rest)
-    by_play true same =
-        let is : codes "play" ≡ word = (bytes_eq-Decides _ _).0 same in
-        subst (λ w. command_found (subcommand_of program (w ∷ rest)) ≡ asked_command (w ∷ rest)) is
-        (play_read rest (both _ _ texts).1 (subst (λ w. fault_of program (w ∷ rest) ≡ []) (sym is) e))
-    by_play false same = by_gen (bytes_eq (codes "gen") word) refl same
+    by : list_all is_plain rest ≡ true → (p g r b : Bool) → bytes_eq (codes "play") word ≡ p → bytes_eq (codes "gen") word ≡ g → bytes_eq (codes "reads") word ≡ r
+        → bytes_eq (codes "balance") word ≡ b → IsReadAsAsked (word ∷ rest)
+    by behind true g r b same no_gen no_reads no_balance = by_name (codes "play") word rest same e (play_read rest behind)
+    by behind false true r b no_play same no_reads no_balance = by_name (codes "gen") word rest same e (gen_read rest behind)
+    by behind false false true b no_play no_gen same no_balance = by_name (codes "reads") word rest same e (reads_read rest behind)
+    by behind false false false true no_play no_gen no_reads same = by_name (codes "balance") word rest same e (balance_read rest behind)
+    by behind false false false false no_play no_gen no_reads no_balance =
+        absurd (other_fails word rest no_play no_gen no_reads no_balance texts e)
 
 -- ---- the words that ask
 
@@ -266,20 +300,33 @@ number_word word number e = go (unsigned_of word) refl e
 abbrev IsNumbered : List Text → Type 0
 IsNumbered words = (word : Text) × (words ≡ codes "gen" ∷ word ∷ []) × IsNumberWord word
 
--- what asks is `play` alone, or `gen` and a number
-asking : (words : List Text) (command : Command) → asked_command words ≡ Some command → (words ≡ codes "play" ∷ []) ⊎ IsNumbered words
-asking [] command e = cc
-asking (word ∷ []) command e = go (bytes_eq word (codes "play")) refl e
+-- the words that ask alone
+abbrev IsAlone : Text → Type 0
+IsAlone word = (word ≡ codes "play") ⊎ ((word ≡ codes "reads") ⊎ (word ≡ codes "balance"))
+
+abbrev IsAskedAlone : List Text → Type 0
+IsAskedAlone words = (word : Text) × (words ≡ word ∷ []) × IsAlone word
+
+alone_word : (word : Text) (command : Command) → asked_alone word ≡ Some command → IsAlone word
+alone_word word command e =
+    go (bytes_eq word (codes "play")) (bytes_eq word (codes "reads")) (bytes_eq word (codes "balance")) refl refl refl e
   where
-    go : (t : Bool) → bytes_eq word (codes "play") ≡ t → cond t (Some Play) None ≡ Some command
-        → (word ∷ [] ≡ codes "play" ∷ []) ⊎ IsNumbered (word ∷ [])
-    go true same e = inl (ap (λ w. w ∷ []) ((bytes_eq-Decides word (codes "play")).0 same))
-    go false same e = cc
+    go : (p r b : Bool) → bytes_eq word (codes "play") ≡ p → bytes_eq word (codes "reads") ≡ r → bytes_eq word (codes "balance") ≡ b
+        → cond p (Some Play) (cond r (Some Reads) (cond b (Some Balance) None)) ≡ Some command → IsAlone word
+    go true r b same differs ends e = inl ((bytes_eq-Decides word (codes "play")).0 same)
+    go false true b differs same ends e = inr (inl ((bytes_eq-Decides word (codes "reads")).0 same))
+    go false false true differs ends same e = inr (inr ((bytes_eq-Decides word (codes "balance")).0 same))
+    go false false false differs ends last e = cc
+
+-- what asks is a word alone, or `gen` and a number
+asking : (words : List Text) (command : Command) → asked_command words ≡ Some command → IsAskedAlone words ⊎ IsNumbered words
+asking [] command e = cc
+asking (word ∷ []) command e = inl (word, refl, alone_word word command e)
 asking (word ∷ number ∷ []) command e = go (bytes_eq word (codes "gen")) (number_of number) refl refl e
   where
     go : (t : Bool) (o : Option ℕ) → bytes_eq word (codes "gen") ≡ t → number_of number ≡ o
         → cond t (option_map Gen o) None ≡ Some command
-        → (word ∷ number ∷ [] ≡ codes "play" ∷ []) ⊎ IsNumbered (word ∷ number ∷ [])
+        → IsAskedAlone (word ∷ number ∷ []) ⊎ IsNumbered (word ∷ number ∷ [])
     go true (Some n) same is e =
         inr (number, ap (λ w. w ∷ number ∷ []) ((bytes_eq-Decides word (codes "gen")).0 same), number_word number n is)
     go true None same is e = cc
@@ -289,6 +336,19 @@ asking (word ∷ number ∷ other ∷ words) command e = cc
 play_passes : fault_of program (codes "play" ∷ []) ≡ []
 unfolding clap_on_literals
 play_passes = refl
+
+reads_passes : fault_of program (codes "reads" ∷ []) ≡ []
+unfolding clap_on_literals
+reads_passes = refl
+
+balance_passes : fault_of program (codes "balance" ∷ []) ≡ []
+unfolding clap_on_literals
+balance_passes = refl
+
+alone_passes : (name : Text) → IsAlone name → fault_of program (name ∷ []) ≡ []
+alone_passes name (inl is) = ap (λ w. fault_of program (w ∷ [])) is ∙ play_passes
+alone_passes name (inr (inl is)) = ap (λ w. fault_of program (w ∷ [])) is ∙ reads_passes
+alone_passes name (inr (inr is)) = ap (λ w. fault_of program (w ∷ [])) is ∙ balance_passes
 
 module _ (byte : ℕ) (bytes : Text) (no_hyphen : byte == 45 ≡ false) where
   abbrev word : Text
@@ -333,8 +393,8 @@ module _ (byte : ℕ) (bytes : Text) (no_hyphen : byte == 45 ≡ false) where
 asked_passes : (words : List Text) (command : Command) → asked_command words ≡ Some command → fault_of program words ≡ []
 asked_passes words command e = go (asking words command e)
   where
-    go : (words ≡ codes "play" ∷ []) ⊎ IsNumbered words → fault_of program words ≡ []
-    go (inl is) = ap (fault_of program) is ∙ play_passes
+    go : IsAskedAlone words ⊎ IsNumbered words → fault_of program words ≡ []
+    go (inl h) = ap (fault_of program) h.1 ∙ alone_passes h.0 h.2
     go (inr h) =
         let word = h.2 in
         ap (fault_of program) (h.1 ∙ ap (λ w. codes "gen" ∷ w ∷ []) word.2) ∙ gen_passes word.0 word.1 word.3
@@ -345,6 +405,19 @@ ascii_is_utf8 bytes ascii = is_utf8-from_IsUtf8 bytes (IsUtf8-from_ascii bytes a
 play_plain : list_all is_plain (codes "play" ∷ []) ≡ true
 unfolding is_utf8 chars encode_utf8
 play_plain = refl
+
+reads_plain : list_all is_plain (codes "reads" ∷ []) ≡ true
+unfolding is_utf8 chars encode_utf8
+reads_plain = refl
+
+balance_plain : list_all is_plain (codes "balance" ∷ []) ≡ true
+unfolding is_utf8 chars encode_utf8
+balance_plain = refl
+
+alone_plain : (name : Text) → IsAlone name → list_all is_plain (name ∷ []) ≡ true
+alone_plain name (inl is) = ap (λ w. list_all is_plain (w ∷ [])) is ∙ play_plain
+alone_plain name (inr (inl is)) = ap (λ w. list_all is_plain (w ∷ [])) is ∙ reads_plain
+alone_plain name (inr (inr is)) = ap (λ w. list_all is_plain (w ∷ [])) is ∙ balance_plain
 
 gen_plain : is_plain (codes "gen") ≡ true
 unfolding is_utf8 chars encode_utf8
@@ -357,8 +430,8 @@ number_plain byte bytes no_hyphen ascii = rw (ascii_is_utf8 (byte ∷ bytes) asc
 asked_plain : (words : List Text) (command : Command) → asked_command words ≡ Some command → list_all is_plain words ≡ true
 asked_plain words command e = go (asking words command e)
   where
-    go : (words ≡ codes "play" ∷ []) ⊎ IsNumbered words → list_all is_plain words ≡ true
-    go (inl is) = ap (list_all is_plain) is ∙ play_plain
+    go : IsAskedAlone words ⊎ IsNumbered words → list_all is_plain words ≡ true
+    go (inl h) = ap (list_all is_plain) h.1 ∙ alone_plain h.0 h.2
     go (inr h) =
         let word = h.2 in
         ap (list_all is_plain) (h.1 ∙ ap (λ w. codes "gen" ∷ w ∷ []) word.2)

@@ -4,9 +4,9 @@ use Rattle.std.specs.Prelude.{Bool, List, None, Option, Some, codes, if◌then�
 use Rattle.std.specs.Str.{bytes_eq, is_utf8}
 use Rattle.clap.specs.Simple.{on_top}
 use Rattle.clap.specs.Words.{App, Row, Rule, Shape, Text, first_of, new_app, new_rule, with_rule, with_subcommand}
-use Rattle.command_words.specs.Words.{number_of}
+use Rattle.command_words.specs.Words.{asked_alone, number_of}
 use Rattle.command_words.specs.declared.words.Command.{Command}
-use Rattle.command_words.specs.declared.words.Command.TheVariants.{Gen, Play}
+use Rattle.command_words.specs.declared.words.Command.TheVariants.{Gen}
 
 -- ---- the program
 
@@ -14,8 +14,9 @@ use Rattle.command_words.specs.declared.words.Command.TheVariants.{Gen, Play}
 abbrev pub number_rule : Rule
 number_rule = record (new_rule (codes "number")) { required = true }
 
-abbrev pub play_app : App
-play_app = new_app (codes "play")
+-- a command with no words of its own
+abbrev pub plain_app : Text → App
+plain_app name = new_app name
 
 abbrev pub gen_app : App
 gen_app = with_rule (new_app (codes "gen")) number_rule
@@ -32,9 +33,14 @@ as_words shape = record shape {
 abbrev pub bare_program : App
 bare_program = on_top as_words (new_app (codes "cluster_cli"))
 
--- `play` and `gen N`, and nothing else
+-- `play`, `gen N`, `reads` and `balance`, and nothing else
 abbrev pub program : App
-program = with_subcommand (with_subcommand bare_program play_app.top) gen_app.top
+program =
+    with_subcommand
+    (with_subcommand
+    (with_subcommand (with_subcommand bare_program (plain_app (codes "play")).top) gen_app.top)
+    (plain_app (codes "reads")).top)
+    (plain_app (codes "balance")).top
 
 -- ---- the words that are given to it
 
@@ -54,9 +60,8 @@ plain_texts words = if list_all is_plain words then Some words else None
 -- the command of the subcommand of this name, which may have a number
 abbrev pub command_named : Text → Option Text → Option Command
 command_named name number =
-    if bytes_eq name (codes "play") then Some Play
-    else (if bytes_eq name (codes "gen") then option_and_then (λ word. option_map Gen (number_of word)) number
-    else None)
+    if bytes_eq name (codes "gen") then option_and_then (λ word. option_map Gen (number_of word)) number
+    else asked_alone name
 
 abbrev pub command_of_rows : Text × List Row → Option Command
 command_of_rows found = command_named found.0 (first_of (codes "number") found.1)

@@ -2,7 +2,7 @@
 use Rattle.std.specs.Prelude.{List, None, Option, Some, [], codes, if◌then◌else◌, nat_lt, option_and_then, option_map, ℕ, ◌^◌, ◌∷◌}
 use Rattle.std.specs.Str.{bytes_eq}
 use Rattle.command_words.specs.declared.words.Command.{Command}
-use Rattle.command_words.specs.declared.words.Command.TheVariants.{Gen, Play}
+use Rattle.command_words.specs.declared.words.Command.TheVariants.{Balance, Gen, Play, Reads}
 use Rattle.text_grammar.specs.Readings.{unsigned_of}
 
 -- ---- numbers
@@ -17,9 +17,13 @@ number_of word = option_and_then if_wide (unsigned_of word)
 
 -- ---- commands
 
--- `play`
+-- `play`, `reads` or `balance`
 abbrev pub asked_alone : List ℕ → Option Command
-asked_alone word = if bytes_eq word (codes "play") then Some Play else None
+asked_alone word =
+    if bytes_eq word (codes "play") then Some Play
+    else (if bytes_eq word (codes "reads") then Some Reads
+    else (if bytes_eq word (codes "balance") then Some Balance
+    else None))
 
 -- `gen` and a number
 abbrev pub asked_with : List ℕ → List ℕ → Option Command

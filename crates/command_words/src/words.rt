@@ -3,7 +3,7 @@ ghost use Rattle.std.specs.Prelude.{◌≡◌, IfOk, is_some, map, option_map, t
 ghost use Rattle.std.specs.List.{list_all};
 ghost use Rattle.clap.specs.Words.{subcommand_rows_of};
 ghost use Rattle.command_words.specs.Program.{command_found, command_named, is_plain};
-ghost use Rattle.command_words.specs.Words.{asked_command};
+ghost use Rattle.command_words.specs.Words.{asked_alone, asked_command};
 
 use crate::numbers::number_of;
 use crate::program::program;
@@ -20,6 +20,25 @@ pub enum Command {
     Play,
     /// To make the schedule of this number, and play it.
     Gen(u64),
+    /// To play the schedule that is read, and name its repaired reads.
+    Reads,
+    /// To play the schedule that is read, and plan moves that even out its tablets.
+    Balance,
+}
+
+/// The command of a word that asks alone.
+fn asked_alone(word: &[u8]) -> Option<Command>
+    ensures { result ≡ asked_alone word.now }
+{
+    if word == b"play".as_slice() {
+        Some(Command::Play)
+    } else if word == b"reads".as_slice() {
+        Some(Command::Reads)
+    } else if word == b"balance".as_slice() {
+        Some(Command::Balance)
+    } else {
+        None
+    }
 }
 
 /// Whether the words after the program's name ask for a command. It takes no memory.
@@ -28,7 +47,7 @@ pub fn is_command(words: &[Text]) -> bool
     ensures { result ≡ is_some (asked_command words.now) }
 {
     match words {
-        [word] => word.as_slice() == b"play".as_slice(),
+        [word] => asked_alone(word.as_slice()).is_some(),
         [word, number] => word.as_slice() == b"gen".as_slice()
             && number_of(number.as_slice()).is_some(),
         _ => false,
@@ -39,14 +58,12 @@ pub fn is_command(words: &[Text]) -> bool
 fn command_named(name: &str, number: Option<&str>) -> Option<Command>
     ensures { result ≡ command_named name.now (option_map (λ word. word.now) number.entry) }
 {
-    if name == "play" {
-        return Some(Command::Play);
-    }
     if name == "gen" {
         let number = number_of(number?.as_bytes())?;
-        return Some(Command::Gen(number));
+        Some(Command::Gen(number))
+    } else {
+        asked_alone(name.as_bytes())
     }
-    None
 }
 
 /// The command that was found in the words.
@@ -72,8 +89,9 @@ fn read_texts<'a>(alloc: Global, texts: &'a [&'a str]) -> Result<Option<Command>
     }
 }
 
-/// The command that the words after the program's name ask for: `play`, or `gen N` with N of 1 to 20 digits and at most
-/// 2^64 - 1. `None` comes for every other list of words, and `NoMemory` where reading them wants memory.
+/// The command that the words after the program's name ask for: `play`, `reads` or `balance`, or `gen N` with N of 1 to
+/// 20 digits and at most 2^64 - 1. `None` comes for every other list of words, and `NoMemory` where reading them wants
+/// memory.
 ///
 /// `clap` reads the words. Two kinds of lists are refused before: those with a word that is no UTF-8, since it reads
 /// text, and those that hold `--`, since it takes `gen -- 7` as it takes `gen 7`. It takes any word for the number that

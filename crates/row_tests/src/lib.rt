@@ -6,6 +6,8 @@ mod barriers;
 #[cfg(test)]
 mod driver;
 #[cfg(test)]
+mod further;
+#[cfg(test)]
 mod moves;
 #[cfg(test)]
 mod refusals;

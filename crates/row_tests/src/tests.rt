@@ -1,5 +1,6 @@
 use crate::barriers::BARRIERS;
 use crate::driver::{Ends, SOUND, check_rows, run};
+use crate::further::{BALANCES, READS};
 use crate::moves::{MOVES, RESIZES};
 use crate::refusals::{FAULTY_TEXTS, PAST_LIMITS};
 use crate::requests::{LEVELS, REQUESTS};
@@ -53,8 +54,21 @@ fn texts_at_fault_are_refused(rt: HostRuntime) -> Result<(), Fail> {
     Ok(())
 }
 
+#[test]
+fn further_lines_follow_the_report(rt: HostRuntime) -> Result<(), Fail> {
+    for (word, rows) in [("reads", READS), ("balance", BALANCES)] {
+        for row in rows {
+            let ran = run(rt.alloc(), &[word], row.text, SOUND)?;
+            assert_eq!(rt; ran.status, row.status, "{}", row.name);
+            let output = str::from_utf8(ran.output.as_slice());
+            assert_eq!(rt; output, str::from_utf8(row.output), "{}", row.name);
+        }
+    }
+    Ok(())
+}
+
 /// What is written where the words are no command.
-const USAGE: &str = "usage: play | run | trace | gen N\n";
+const USAGE: &str = "usage: play | run | trace | gen N | reads | balance\n";
 
 /// What `gen 7` writes.
 const SEVEN: &str = "gen 7 events 7883 replies 879 log 121 version 122 fence 1 moved 15\n";
@@ -63,7 +77,7 @@ const SEVEN: &str = "gen 7 events 7883 replies 879 log 121 version 122 fence 1 m
 type Call = (&'static [&'static str], u8, &'static str);
 
 /// Calls whose text nobody reads.
-const CALLS: [Call; 14] = [
+const CALLS: [Call; 16] = [
     (&["gen", "7"], 0, SEVEN),
     (&["gen", "7"], 0, SEVEN),
     (&["gen", "007"], 0, SEVEN),
@@ -73,6 +87,8 @@ const CALLS: [Call; 14] = [
     (&["gen", "7", "7"], 2, USAGE),
     (&["gen"], 2, USAGE),
     (&["play", "x"], 2, USAGE),
+    (&["reads", "x"], 2, USAGE),
+    (&["balance", "1"], 2, USAGE),
     (&["plays"], 2, USAGE),
     (&["run"], 2, USAGE),
     (&["--", "play"], 2, USAGE),

@@ -93,7 +93,9 @@ known_short : (labels : LineOf) (w : List ℕ) (first : First) → by_short labe
 known_short labels w first is = by_word (first_short_word w) is
   where
     by_mono : (t : Bool) → bytes_eq w (codes "mono") ≡ t → new_label labels (label_of w) ≡ Ok first → by_short labels w (if t then Some MonoVerb else None) ≡ Ok first
-    by_mono true same e = cc (sym (mono_is_none labels w same) ∙ e)
+    by_mono true same e =
+        let none : new_label labels (label_of w) ≡ Err (Refused BadWord) = mono_is_none labels w same in
+        cc
     by_mono false other e = e
 
     by_word : (found : Option ShortVerb) → by_short labels w found ≡ Ok first → by_short labels w (option_or found (meaning ((codes "mono", MonoVerb) ∷ []) w)) ≡ Ok first
