@@ -9,7 +9,7 @@ use Rattle.cluster_history.specs.declared.data.Entry.{Entry}
 use Rattle.base_ids.proofs.NameLemmas.{same_actor-refl}
 use Rattle.plan_facts.specs.Own.{is_that_ref, own_count, same_ref, taken_count, taken_ref}
 use Rattle.plan_facts.proofs.OtherLemmas.{own_count-other, taken_count-other}
-use Rattle.engine_desk.specs.Chairs.{HasCommitted, HasTurned, IsLater, Known}
+use Rattle.engine_desk.specs.Chairs.{HasCommitted, HasNoted, HasTurned, IsLater, Known}
 use Rattle.engine_desk.specs.Desks.{IsFiled, count_in}
 use Rattle.engine_desk.proofs.LaterLemmas.{since}
 
@@ -23,6 +23,9 @@ pub filed_turned : (old new : Known) (own : ℕ) (refs : List MsgRef) → HasTur
 filed_turned old new own refs t f =
     subst (λ (k : Known). IsFiled k own refs) (sym t.is)
     (record { own_is = f.own_is ∙ sym (own_since old t.now t.later); refs_are = λ at. f.refs_are at ∙ sym (taken_since old t.now at t.later) })
+
+pub filed_noted : (old new : Known) (own : ℕ) (refs : List MsgRef) → HasNoted old new → IsFiled old own refs → IsFiled new own refs
+filed_noted old new own refs noted f = subst (λ (k : Known). IsFiled k own refs) (sym noted) (record { own_is = f.own_is; refs_are = f.refs_are })
 
 pub count-append : (at : MsgRef) (first second : List MsgRef) → count_in at (first ++ second) ≡ count_in at first + count_in at second
 count-append at [] second = omega arith

@@ -20,7 +20,7 @@ use Rattle.base_ids.specs.declared.ids.HostId.{HostId}
 use Rattle.base_ids.specs.declared.rules.Appended.{Appended}
 use Rattle.topo_state.specs.declared.command.Command.{Command}
 use Rattle.topo_state.specs.declared.command.Rule.{Rule}
-use Rattle.engine_desk.specs.Chairs.{HasCommitted, HasTurned, IsRun, Known, look_entry, propose_entry}
+use Rattle.engine_desk.specs.Chairs.{HasCommitted, HasNoted, HasTurned, IsRun, Known, look_entry, propose_entry}
 use Rattle.cluster_history.specs.Topology.{log_of}
 use Rattle.engine_desk.specs.declared.chair.Refused.{Refused}
 
@@ -57,6 +57,11 @@ skipping cause desk at = record desk { held = None; skips = skip_of cause desk a
 
 pub record DeskTurned (old new : DeskView) : Type 0 where
   pub turned : HasTurned old.known new.known
+  pub is : new ≡ record old { known = new.known }
+
+-- the actor knows other pins, or has published or found something
+pub record DeskNoted (old new : DeskView) : Type 0 where
+  pub noted : HasNoted old.known new.known
   pub is : new ≡ record old { known = new.known }
 
 pub record DeskCommitted (old : DeskView) (entry : Entry) (number : ℕ) (new : DeskView) : Type 0 where

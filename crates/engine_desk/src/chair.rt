@@ -1,13 +1,15 @@
 //! The place from which an actor reads and writes the history that all actors share.
-ghost use Rattle.std.specs.Prelude.{◌≡◌, IfOk, Option};
+ghost use Rattle.std.specs.Prelude.{◌≡◌, ◌<◌, length, IfOk, IsSome, Option};
 ghost use Rattle.base_ids.specs.declared.ids.Actor.{Actor};
+ghost use Rattle.base_ids.specs.declared.ids.LaneId.{LaneId};
 ghost use Rattle.group0_log.specs.Log.{command_at};
 ghost use Rattle.cluster_history.specs.History.{message_at};
-ghost use Rattle.cluster_history.specs.Topology.{log_of};
-ghost use Rattle.engine_desk.specs.Chairs.{HasTurned, IsCommit, IsLook, IsProposal, Known, MayCommit, MayPropose};
+ghost use Rattle.cluster_history.specs.Topology.{log_of, state_of_version};
+ghost use Rattle.engine_desk.specs.Chairs.{ArePinnable, HasPinned, HasSpare, HasTurned, IsCommit, IsHostSeat, IsLaneSeat, IsLook, IsNextVersion, IsPinning, IsProposal, IsPublishing, Known, MayCommit, MayPropose, found_idle, with_pins, without_pin};
 
-use base_ids::{Appended, HostId, LimitName, MsgRef, NoMemory, StateId};
+use base_ids::{Appended, HostId, LimitName, MsgRef, NoMemory, StateId, Version};
 use cluster_history::{Entry, Message};
+use meta_snap::Snapshot;
 use shared_value::Shared;
 use std::alloc::{AllocError, Global};
 use std::sync::Wait;
@@ -34,7 +36,8 @@ impl From<AllocError> for Refused {
     }
 }
 
-/// The place of one actor. Each call that waits is a turn: the actor sees what came since its last one.
+/// The place of one actor. Each call that waits is a turn: the actor sees what came since its last one. The others, which
+/// have no handle to wait by, leave what it has seen.
 pub trait Chair: Drop {
     ghost known: { Self → Known };
 
@@ -52,6 +55,44 @@ pub trait Chair: Drop {
     fn command<R: Wait>(&mut self, rt: &R, number: u64) -> Result<Option<Shared<Command>>, NoMemory>
         ensures turned { HasTurned (known self.old) (known self.new) }
         ensures found { IfOk result (λ command. command ≡ command_at (log_of (known self.new).seen) number) };
+
+    /// The first state of a version, where the log has one of it. It has one of each version that a lane pins, which is
+    /// no older than its host's floor and no newer than its host.
+    fn snapshot<R: Wait>(
+        &mut self,
+        rt: &R,
+        version: Version,
+    ) -> Result<Option<Shared<Snapshot>>, NoMemory>
+        ensures turned { HasTurned (known self.old) (known self.new) }
+        ensures pinned { ArePinnable (known self.new) }
+        ensures found { let new = known self.new in
+            IfOk result (λ snapshot. snapshot ≡ state_of_version new.opening new.seen version) }
+        ensures there { (lane : LaneId) → HasPinned (known self.new) lane version → IfOk result IsSome };
+
+    /// A lane pins the version that its host has published. `None` comes where the host published another one meanwhile.
+    /// A lane has at most 8 pins.
+    fn pin(&mut self) -> Option<Version>
+        requires lane { IsLaneSeat (known self.old) }
+        requires room { length (known self.old).pins < 8 }
+        ensures { IsPinning (known self.old) result (known self.new) };
+
+    /// A lane takes back a pin that no live request needs.
+    fn unpin(&mut self, version: Version)
+        requires { HasSpare (known self.old) version }
+        ensures { let old = known self.old in known self.new ≡ with_pins (without_pin version old.pins) old };
+
+    /// A host publishes the next version, which it has reached. `false` comes where pins of an older version stand in its
+    /// way.
+    fn publish(&mut self, version: Version) -> bool
+        requires { IsNextVersion (known self.old) version }
+        ensures { IsPublishing (known self.old) version result (known self.new) };
+
+    /// Whether no lane of the host pins a version below the one that it published last. This stays so until it
+    /// publishes another one.
+    fn idle_below(&mut self, version: Version) -> bool
+        requires host { IsHostSeat (known self.old) }
+        requires published { (known self.old).published ≡ version }
+        ensures { known self.new ≡ record (known self.old) { idle = found_idle result version } };
 
     /// Adds an entry of the actor, and gives its number.
     fn commit<R: Wait>(&mut self, rt: &R, entry: Entry) -> Result<u64, Refused>

@@ -1,19 +1,21 @@
 //! One actor at its desk: its place at the history, its mail, and what it took.
 ghost use Rattle.std.specs.Vec.{vec_capacity};
-ghost use Rattle.std.specs.Prelude.{◌≡◌, ◌<◌, ◌++◌, [], option_to_list, vec_len, IfOk, IsSome, MatchResult, None, Some, IfSome};
+ghost use Rattle.std.specs.Prelude.{◌≡◌, ◌<◌, ◌++◌, [], length, option_to_list, vec_len, IfOk, IsSome, MatchResult, None, Some, IfSome};
 ghost use Rattle.base_ids.specs.declared.ids.MsgRef.{MsgRef};
 ghost use Rattle.base_ids.specs.declared.ids.Actor.{Actor};
+ghost use Rattle.base_ids.specs.declared.ids.LaneId.{LaneId};
 ghost use Rattle.group0_log.specs.Log.{command_at};
 ghost use Rattle.cluster_history.specs.History.{message_at};
-ghost use Rattle.cluster_history.specs.Topology.{log_of};
+ghost use Rattle.cluster_history.specs.Topology.{log_of, state_of_version};
 ghost use Rattle.plan_facts.specs.Own.{taken_count, taken_ref};
-ghost use Rattle.engine_desk.specs.Chairs.{MayCommit, MayPropose, IsRun};
-ghost use Rattle.engine_desk.specs.Desks.{count_in, DeskTurned, fresh, IsDeskCommit, IsDeskLook, IsDeskProposal, IsFetched, skipping, taking};
+ghost use Rattle.engine_desk.specs.Chairs.{ArePinnable, HasPinned, HasSpare, IsHostSeat, IsLaneSeat, IsNextVersion, IsPinning, IsPublishing, IsRun, MayCommit, MayPropose, found_idle, with_pins, without_pin};
+ghost use Rattle.engine_desk.specs.Desks.{count_in, DeskNoted, DeskTurned, fresh, IsDeskCommit, IsDeskLook, IsDeskProposal, IsFetched, skipping, taking};
 
 use crate::chair::{Chair, Refused};
 use crate::mail::Mail;
-use base_ids::{Appended, HostId, MsgRef, NoMemory, StateId};
+use base_ids::{Appended, HostId, MsgRef, NoMemory, StateId, Version};
 use cluster_history::{Entry, Message};
+use meta_snap::Snapshot;
 use plan_facts::{Skip, SkipCause};
 use shared_value::Shared;
 use std::alloc::Global;
@@ -160,6 +162,63 @@ impl<C: Chair, M: Mail> Desk<C, M> {
         ensures found { IfOk result (λ command. command ≡ command_at (log_of self.new.known.seen) number) }
     {
         self.chair.command(rt, number)
+    }
+
+    /// The first state of a version, where the log has one of it. It has one of each version that a lane pins, which is
+    /// no older than its host's floor and no newer than its host.
+    pub fn snapshot<R: Wait>(
+        &mut self,
+        rt: &R,
+        version: Version,
+    ) -> Result<Option<Shared<Snapshot>>, NoMemory>
+        ensures turned { DeskTurned self.old self.new }
+        ensures pinned { ArePinnable self.new.known }
+        ensures found { let new = self.new.known in
+            IfOk result (λ snapshot. snapshot ≡ state_of_version new.opening new.seen version) }
+        ensures there { (lane : LaneId) → HasPinned self.new.known lane version → IfOk result IsSome }
+    {
+        self.chair.snapshot(rt, version)
+    }
+
+    /// A lane pins the version that its host has published. `None` comes where the host published another one meanwhile.
+    /// A lane has at most 8 pins.
+    pub fn pin(&mut self) -> Option<Version>
+        requires lane { IsLaneSeat self.old.known }
+        requires room { length self.old.known.pins < 8 }
+        ensures pinned { IsPinning self.old.known result self.new.known }
+        ensures noted { DeskNoted self.old self.new }
+    {
+        self.chair.pin()
+    }
+
+    /// A lane takes back a pin that no live request needs.
+    pub fn unpin(&mut self, version: Version)
+        requires { HasSpare self.old.known version }
+        ensures { let old = self.old.known in
+            self.new ≡ record self.old { known = with_pins (without_pin version old.pins) old } }
+    {
+        self.chair.unpin(version)
+    }
+
+    /// A host publishes the next version, which it has reached. `false` comes where pins of an older version stand in its
+    /// way.
+    pub fn publish(&mut self, version: Version) -> bool
+        requires { IsNextVersion self.old.known version }
+        ensures published { IsPublishing self.old.known version result self.new.known }
+        ensures noted { DeskNoted self.old self.new }
+    {
+        self.chair.publish(version)
+    }
+
+    /// Whether no lane of the host pins a version below the one that it published last. This stays so until it
+    /// publishes another one.
+    pub fn idle_below(&mut self, version: Version) -> bool
+        requires host { IsHostSeat self.old.known }
+        requires published { self.old.known.published ≡ version }
+        ensures { self.new ≡
+            record self.old { known = record self.old.known { idle = found_idle result version } } }
+    {
+        self.chair.idle_below(version)
     }
 
     /// Adds an entry of the actor, which takes the message that is held, and gives its number.

@@ -1,7 +1,8 @@
 -- A host plays its event, and skips a question whose answer is no.
-use Rattle.std.proofs.Common.{ap, refl, subst, sym, ◌∙◌}
+use Rattle.std.proofs.Common.{ap, arith, refl, subst, sym, ◌∙◌}
+use Rattle.std.proofs.lemmas.Bool.Decides.{nat_tests}
 use Rattle.std.specs.Result.{IsErr}
-use Rattle.std.specs.Prelude.{Bool, Err, List, None, Ok, OnOk, Option, Result, Some, [], false, true, ℕ, ◌∷◌, ◌≡◌}
+use Rattle.std.specs.Prelude.{Bool, Err, List, None, Ok, OnOk, Option, Result, Some, [], false, if◌then◌else◌, nat_lt, true, ℕ, ◌∷◌, ◌≡◌, ◌≤◌}
 use Rattle.barrier_core.specs.declared.data.Ask.{Ask}
 use Rattle.barrier_core.specs.declared.data.What.{What}
 use Rattle.barrier_core.specs.declared.data.What.TheVariants.{Clean as CleanOf, Done, Drain, Fence as FenceAt, Ready}
@@ -9,21 +10,25 @@ use Rattle.base_ids.specs.declared.ids.Actor.{Actor}
 use Rattle.base_ids.specs.declared.ids.Actor.TheVariants.{Host as ByHost}
 use Rattle.base_ids.specs.declared.ids.HostId.{HostId}
 use Rattle.base_ids.specs.declared.ids.MsgRef.{MsgRef}
+use Rattle.base_ids.specs.declared.ids.Version.{Version}
+use Rattle.base_ids.specs.declared.rules.EventRule.TheVariants.{VersionAhead}
+use Rattle.base_ids.proofs.NameLemmas.{same_host-refl}
 use Rattle.cluster_history.specs.Held.{has_done}
 use Rattle.cluster_history.specs.History.{History, actor_of, is_by, message_at}
 use Rattle.cluster_history.specs.Legal.{IsFitEvent, IsLegalHistory}
 use Rattle.cluster_history.specs.Openings.{HasPart}
 use Rattle.cluster_history.specs.Rules.{is_so}
-use Rattle.cluster_history.specs.Topology.{applied_state, floor_of}
+use Rattle.cluster_history.specs.Topology.{applied_state, floor_of, version_of}
 use Rattle.cluster_history.specs.declared.data.Entry.{Entry}
 use Rattle.cluster_history.specs.declared.data.Event.{Event}
-use Rattle.cluster_history.specs.declared.data.Event.TheVariants.{Ask as AskEvent, Propose}
+use Rattle.cluster_history.specs.declared.data.Event.TheVariants.{Ask as AskEvent, Propose, Quiet}
 use Rattle.cluster_history.specs.declared.data.Message.{Message}
 use Rattle.cluster_history.specs.declared.data.Message.TheVariants.{Ask as AskSent}
 use Rattle.cluster_history.specs.declared.data.Opening.{Opening}
 use Rattle.host_core.specs.Host.{CanTake, HostView, holds_here, host_after, host_out, host_rule}
 use Rattle.host_core.specs.declared.data.HostInput.{HostInput}
-use Rattle.host_ties.specs.HostTies.{IsHostPlay, host_outputs, host_view}
+use Rattle.host_core.specs.declared.data.HostInput.TheVariants.{Quiet as QuietInput}
+use Rattle.host_ties.specs.HostTies.{IsHostPlay, host_input, host_outputs, host_view}
 use Rattle.host_ties.proofs.HostTies.{host_plays, host_stays}
 use Rattle.host_ties.proofs.PullLemmas.{host_pulls}
 use Rattle.plan_facts.specs.Own.{own_count, own_past}
@@ -31,7 +36,7 @@ use Rattle.plan_facts.specs.Skips.{IsCaused, IsNotSo}
 use Rattle.run_plan.specs.declared.plan.RunPlan.{RunPlan}
 use Rattle.plan_facts.specs.declared.skips.SkipCause.TheVariants.{NotTrue}
 use Rattle.plan_facts.proofs.CauseLemmas.{past-all, past-none}
-use Rattle.engine_desk.specs.Chairs.{HasCommitted, IsLater, Known, MayCommit}
+use Rattle.engine_desk.specs.Chairs.{HasCommitted, IsEnabled, IsLater, Known, MayCommit}
 use Rattle.engine_desk.specs.Desks.{DeskTurned, DeskView, IsDeskCommit, IsSeated, skip_of}
 use Rattle.engine_desk.specs.declared.chair.Refused.{Refused}
 use Rattle.engine_desk.proofs.LaterLemmas.{Stays}
@@ -40,9 +45,34 @@ use Rattle.engine_players.proofs.StepLemmas.{actors_step}
 
 -- ---- what a due event finds
 
+reached : (version newest : Version) → version.0 ≤ newest.0 → (if nat_lt newest.0 version.0 then Some VersionAhead else None) ≡ None
+reached version newest le =
+    (elim (nat_lt newest.0 version.0) as (λ b. nat_lt newest.0 version.0 ≡ b → (if b then Some VersionAhead else None) ≡ None) [
+      | true ↦ λ less. let wrong : ⊥ = grind (arith, nat_tests) in absurd wrong
+      | false ↦ λ less. refl
+    ]) refl
+
+quiet_play : (opening : Opening) (history : History) (host : HostId) (version : Version) → version.0 ≤ (version_of opening history host).0 → IsHostPlay opening history host (Quiet host version) (QuietInput version)
+quiet_play opening history host version le =
+    record {
+      rule = reached version (version_of opening history host) le;
+      fits = tt;
+      outputs = refl;
+      after = rw (same_host-refl host) refl;
+    }
+
+event_play : (known : Known) (host : HostId) (event : Event) (input : HostInput) → IsSeated known → actor_of event ≡ ByHost host → IsEnabled known event → host_input known.seen event ≡ Some input → IsHostPlay known.opening known.seen host event input
+event_play known host (Quiet by version) input seated mine enabled given =
+    let named : by ≡ host = cc mine in
+    let is : QuietInput version ≡ input = cc given in
+    subst (λ (h : HostId). IsHostPlay known.opening known.seen h (Quiet by version) input) named
+    (subst (λ (i : HostInput). IsHostPlay known.opening known.seen by (Quiet by version) i) is (quiet_play known.opening known.seen by version enabled))
+event_play known host event input seated mine enabled given =
+    host_plays known.opening known.seen event host input seated.valid seated.run.legal mine enabled seated.run.commands given
+
 pub host_play : (desk : DeskView) (host : HostView) (event : Event) (input : HostInput) → IsSeated desk.known → IsHost desk.known host → IsHostDue desk host event input → IsHostPlay desk.known.opening desk.known.seen host.host event input
 host_play desk host event input seated is due =
-    host_plays desk.known.opening desk.known.seen event host.host input seated.valid seated.run.legal due.author due.enabled seated.run.commands due.input_is
+    event_play desk.known host.host event input seated due.author due.enabled due.input_is
 
 pub host_rule_is : (desk : DeskView) (host : HostView) (event : Event) (input : HostInput) → IsSeated desk.known → IsHost desk.known host → IsHostDue desk host event input → host_rule host input ≡ None
 host_rule_is desk host event input seated is due =

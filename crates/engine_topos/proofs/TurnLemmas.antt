@@ -42,6 +42,7 @@ use Rattle.engine_desk.specs.Desks.{DeskTurned, DeskView, IsDesk, IsDeskCommit, 
 use Rattle.engine_desk.specs.Topos.{IsUnderWay}
 use Rattle.engine_desk.specs.declared.chair.Refused.{Refused}
 use Rattle.engine_desk.proofs.DeskLemmas.{desk_committed, desk_turned}
+use Rattle.engine_desk.proofs.EnabledLemmas.{enabled_by}
 use Rattle.engine_desk.proofs.LaterLemmas.{since}
 use Rattle.engine_desk.proofs.SameLemmas.{same_committed, same_turned}
 use Rattle.engine_desk.proofs.ShareLemmas.{way_since}
@@ -84,7 +85,7 @@ topo_may desk topo event input seated is due =
       author = due.author ∙ sym is.actor;
       there = subst (HasPart desk.known.opening) (is.actor ∙ sym due.author) seated.there;
       fit = due.fit;
-      enabled = due.enabled;
+      enabled = enabled_by desk.known event due.enabled;
       outputs =
           plain_same (proposal_outcome desk.known.opening desk.known.seen) topo input due.plain
           ∙ ap (λ (v : TopoView). topo_outputs (proposal_outcome desk.known.opening desk.known.seen) (topo_out v input)) is.view

@@ -1,0 +1,3 @@
+pub mod TurnLemmas
+pub mod ReadyLemmas
+pub mod PinLemmas
