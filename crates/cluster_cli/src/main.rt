@@ -7,10 +7,10 @@ use base_ids::{Items, NoMemory};
 use cluster_program::{Status, Words, cluster_main};
 use fault_io::{CountedReader, CountedWriter, StdSink, StdSource};
 use process::{exit_code, words_after_name};
-use std::env;
 use std::io::ErrorKind;
 use std::process::ExitCode;
 use std::rt::Env;
+use std::{env, mem};
 
 /// The words after the program's name. Words that are no text are none.
 fn read_words<R: Env + AllocGlobal>(rt: &R) -> Result<Words, NoMemory> {
@@ -28,5 +28,8 @@ fn main(rt: HostRuntime) -> ExitCode {
     let mut source = StdSource::new(CountedReader::new(rt.stdin()));
     let mut sink = StdSink::new(CountedWriter::new(rt.stdout()));
     let outcome = cluster_main(rt.alloc(), &words, &mut source, &mut sink);
-    exit_code(&outcome)
+    let code = exit_code(&outcome);
+    // The process ends: its memory goes back as a whole, and no journal is given back entry by entry.
+    mem::forget(outcome);
+    code
 }
