@@ -104,6 +104,7 @@ fn operations_in(alloc: Global, format: Format, items: &[Value]) -> Result<Opera
         (read_each (λ earlier e. reading (Line (one_operation format)) e) [] (items_view items.now)) }
 {
     let mut operations: OperationList = Items::new(alloc);
+    operations.reserve(items.len())?;
     let mut left = items;
     'items: while let [first, behind @ ..] = left {
         let place = operations.as_slice().len();

@@ -7,12 +7,13 @@ ghost use Rattle.json_forms.specs.Forms.{Member, MemberOr, Each};
 ghost use Rattle.json_forms.specs.Readings.{reading, read_each};
 ghost use Rattle.json_forms.specs.Results.{Gives};
 ghost use Rattle.tablet_map.specs.Replicas.{IsReplicaSet};
+ghost use Rattle.topo_state.specs.State.{is_member};
 ghost use Rattle.topo_state.specs.Tables.{tablet_count};
 ghost use Rattle.cluster_file.specs.Openings.{may_hold, replica, replicas, new_id, size, is_named, tablet, other, table_of, table, next_table, tables};
 ghost use Rattle.cluster_file.specs.Sound.{IsSoundOther, MayBeSet};
 
 use crate::frame::Frame;
-use base_ids::{Items, LimitName, NoMemory, Replica, TableId, has_host};
+use base_ids::{HostId, Items, LimitName, NoMemory, Replica, TableId, has_host, is_same_host};
 use json_forms::{
     Fault, FileRule, ReadError, count, here, list, need, number_below, object, spelled, text,
     under, under_item,
@@ -33,11 +34,21 @@ pub(crate) struct Other {
     pub(crate) replicas: Items<Replica>,
 }
 
+/// Whether the host is a member. Its own place in the list is looked at first: there it stands where all hosts are
+/// members, in order.
+#[tactic(auto, using(crate::proofs::SoundLemmas::member_at))]
+fn is_among(members: &[HostId], host: HostId) -> bool
+    ensures { result ≡ is_member members.now host }
+{
+    let place = usize::from(host.0);
+    (place < members.len() && is_same_host(host, members[place])) || is_member(members, host)
+}
+
 /// Whether a tablet may have the replica behind others.
 fn may_hold(frame: &Frame, earlier: &[Replica], replica: Replica) -> bool
     ensures { result ≡ may_hold frame.now earlier.now replica }
 {
-    is_member(frame.members.as_slice(), replica.host)
+    is_among(frame.members.as_slice(), replica.host)
         && (replica.shard.0 < frame.shards && !has_host(earlier, replica.host))
 }
 

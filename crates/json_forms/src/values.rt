@@ -96,8 +96,13 @@ pub fn under_item<T: Drop>(
 ) -> Result<T, ReadError>
     ensures { IsUnder (decimal place) read result }
 {
-    let mut buffer = itoa::Buffer::new();
-    below(alloc, buffer.format(place).as_bytes(), read)
+    match read {
+        Ok(x) => Ok(x),
+        Err(error) => {
+            let mut buffer = itoa::Buffer::new();
+            below(alloc, buffer.format(place).as_bytes(), Err(error))
+        }
+    }
 }
 
 /// The whole number of 64 bits that a value holds. One below 0 is `BadValue`, and any other value is `WrongType`.
