@@ -1,7 +1,7 @@
 -- What a coordinator does for a move.
 use Rattle.std.proofs.Common.{ap, arith, cond, refl, subst, sym, ◌∙◌}
 use Rattle.std.proofs.lemmas.Bool.Decides.{nat_tests}
-use Rattle.std.specs.Prelude.{Bool, Err, List, None, Ok, Option, Result, Some, [], false, if◌then◌else◌, length, nat_lt, OnErr, option_map, true, ℕ, ◌&&◌, ◌+◌, ◌==◌, ◌∷◌, ◌≡◌}
+use Rattle.std.specs.Prelude.{Bool, Err, List, None, Ok, Option, Result, Some, [], false, if◌then◌else◌, length, nat_lt, OnErr, option_map, true, ℕ, ◌+◌, ◌==◌, ◌∷◌, ◌≡◌}
 use Rattle.barrier_core.specs.declared.data.Told.{Told}
 use Rattle.base_ids.specs.Names.{same_session}
 use Rattle.base_ids.specs.declared.ids.Actor.TheVariants.{Topo as ByTopo}
@@ -27,9 +27,9 @@ use Rattle.migrate_core.specs.declared.next.Next.{Next}
 use Rattle.migrate_core.specs.declared.next.Next.TheVariants.{Barrier, Nothing, Propose, Ready}
 use Rattle.migrate_core.proofs.PlanLemmas.{awaited_none, planned as planned_is}
 use Rattle.resize_core.specs.Plan.{awaited_ready, next_for_decision, next_for_table, plan_resize}
-use Rattle.plan_facts.specs.Moves.{advanced_stage, due_command, first_command, going_command, next_advance, proposals_of, stage_in, standing_by, turns_back_at, with_outcome}
+use Rattle.plan_facts.specs.Moves.{Proposal, advanced_stage, due_command, first_command, going_command, may_come, next_advance, proposals_of, stage_in, standing_by, turns_back_at}
 use Rattle.plan_facts.specs.declared.standing.Standing.{Standing}
-use Rattle.plan_facts.specs.declared.standing.Standing.TheVariants.{Before, Going}
+use Rattle.plan_facts.specs.declared.standing.Standing.TheVariants.{Before, Going, Over}
 use Rattle.plan_facts.specs.Own.{raises}
 use Rattle.run_plan.specs.declared.plan.Act.{Act}
 use Rattle.run_plan.specs.declared.plan.Act.TheVariants.{Create, Join, Leave, Merge, Move, Split}
@@ -47,22 +47,22 @@ use Rattle.topo_coord.specs.Rules.{proposal_rule}
 use Rattle.topo_coord.specs.Topo.{TopoView}
 use Rattle.plan_facts.specs.Suits.{IsFenceDue}
 use Rattle.run_plan.specs.declared.plan.RunPlan.{RunPlan}
-use Rattle.engine_desk.specs.Chairs.{HasCommitted, Known, look_entry, propose_entry}
+use Rattle.engine_desk.specs.Chairs.{HasCommitted, IsLater, Known, look_entry, propose_entry}
 use Rattle.engine_desk.specs.Desks.{DeskCommitted, DeskProposed, DeskView, IsDesk, IsDeskProposal, IsSameDesk}
-use Rattle.engine_desk.specs.Topos.{IsUnderWay}
-use Rattle.engine_desk.proofs.ShareLemmas.{way_since}
+use Rattle.engine_desk.proofs.ShareLemmas.{advances_judged}
 use Rattle.engine_desk.proofs.LaterLemmas.{since}
 use Rattle.engine_desk.proofs.SameLemmas.{same_committed, same_turned}
 use Rattle.engine_desk.specs.declared.chair.Refused.{Refused}
 use Rattle.cluster_history.proofs.StayLemmas.{seen_state-other}
-use Rattle.engine_players.specs.Coordinators.{IsProposable, IsSafe, IsTopo, MovesOn}
+use Rattle.engine_players.specs.Coordinators.{IsProposable, IsSafe, IsTopo}
 use Rattle.engine_topos.specs.Notes.{IsNoted, NotesView, propose_noted}
 use Rattle.engine_topos.specs.Turns.{IsAtTopo, WaysStay}
 use Rattle.engine_topos.proofs.NoteLemmas.{noted_proposal, noted_since}
-use Rattle.engine_topos.proofs.TurnLemmas.{later_of}
+use Rattle.engine_topos.proofs.TurnLemmas.{later_of, ways_since}
 use Rattle.engine_topos.specs.Clocks.{IsTimed}
 use Rattle.engine_topos.specs.declared.clock.Clock.{Clock}
-use Rattle.engine_topos.specs.Acts.{CanFence, IsNextAct, WayGoes, is_illegal, planned, planned_act, turns_back}
+use Rattle.engine_topos.specs.Acts.{CanFence, is_illegal, next_act, planned_act, turns_back}
+use Rattle.engine_topos.specs.Deeds.{HasGone}
 use Rattle.cluster_history.specs.declared.data.Event.TheVariants.{Look}
 use Rattle.topo_coord.specs.Topo.{topo_after}
 use Rattle.topo_coord.specs.declared.data.TopoInput.TheVariants.{Look as LookInput}
@@ -173,19 +173,8 @@ fence_fine state version is above =
 pub ways_fenced : (known after : Known) (topo : HostId) (version : Version) (outcome : Appended Rule) (number : ℕ) → known.actor ≡ ByTopo topo → HasCommitted known (propose_entry topo (SetFence version) outcome) number after → WaysStay known topo after
 ways_fenced known after topo version outcome number is c =
     let opening = known.opening in
-    λ moves done move standing w.
-    let on = way_since moves opening topo known.seen c.now done move standing (later_of known topo c.now is c.later) w in
-    subst (λ (k : Known). IsUnderWay moves k.opening topo k.seen done move standing) (sym c.is)
-    (record {
-      share = on.share;
-      older = on.older;
-      whole = on.whole ∙ ap (λ b. if b && false then with_outcome (seen_state opening c.now topo) (SetFence version) (propose_entry topo (SetFence version) outcome).outputs (proposals_of opening c.now topo) else proposals_of opening c.now topo) (sym (same_host-refl topo));
-      count = on.count;
-      there = on.there;
-      carried = on.carried;
-      before = on.before;
-      stands = on.stands;
-    })
+    let none : proposals_of opening (propose_entry topo (SetFence version) outcome ∷ c.now) topo ≡ proposals_of opening c.now topo = rw (same_host-refl topo) refl in
+    ap (λ (k : Known). proposals_of k.opening k.seen topo) c.is ∙ none ∙ ways_since opening topo known.seen c.now (later_of known topo c.now is c.later)
 
 pub noted_proposed : (known after : Known) (topo : HostId) (command : Command) (outcome : Appended Rule) (number : ℕ) (notes : NotesView) → known.actor ≡ ByTopo topo → HasCommitted known (propose_entry topo command outcome) number after → IsNoted known.seen topo notes → IsNoted after.seen topo (propose_noted command outcome notes)
 noted_proposed known after topo command outcome number notes is c n =
@@ -226,11 +215,35 @@ fence_due plan desk topo notes at looked above drained =
       free = at.free;
     }
 
-pub go_on : (known after : Known) (topo : TopoView) (command : Command) (outcome : Appended Rule) (move : MoveAsk) (standing next : Standing) (stage : Option Stage) → MovesOn known topo command outcome after → raises command ≡ true → due_command move standing (advanced_stage topo.state command) ≡ Some command → IsSafe topo.state command → stage ≡ advanced_stage topo.state command → next ≡ standing_by move standing command stage outcome → WayGoes known topo.host move standing next after
-go_on known after topo command outcome move standing next stage on raising due safe stage_is next_is =
-    λ moves done w.
-    subst (λ (s : Standing). IsUnderWay moves after.opening topo.host after.seen done move s) (sym (next_is ∙ ap (λ (o : Option Stage). standing_by move standing command o outcome) stage_is))
-    (on moves done move standing w raising due safe)
+state_since : (known : Known) (topo : TopoView) (now : History) → IsTopo known topo → IsLater known.opening (ByTopo topo.host) known.seen now → topo.state ≡ seen_state known.opening now topo.host
+state_since known topo now is later =
+    ap (λ (v : TopoView). v.state) is.view ∙ sym (since known.opening (ByTopo topo.host) (λ h. seen_state known.opening h topo.host) (λ history entry legal other. seen_state-other known.opening history entry topo.host other) known.seen now later)
+
+well_judged : (opening : Opening) (now : History) (topo : HostId) (command : Command) (outcome : Appended Rule) → IsNext opening now (propose_entry topo command outcome) → IsSafe (seen_state opening now topo) command → may_come command outcome ≡ true
+well_judged opening now topo (Advance session to) outcome next safe = advances_judged opening now topo (Advance session to) outcome next safe
+well_judged opening now topo command outcome next safe = refl
+
+-- a due command was proposed
+pub has_gone : (known after : Known) (topo : TopoView) (command : Command) (outcome : Appended Rule) (number : ℕ) (move : MoveAsk) (standing next : Standing) (stage : Option Stage) → IsTopo known topo → HasCommitted known (propose_entry topo.host command outcome) number after → raises command ≡ true → due_command move standing (advanced_stage topo.state command) ≡ Some command → IsSafe topo.state command → stage ≡ advanced_stage topo.state command → next ≡ standing_by move standing command stage outcome → HasGone known topo.host move standing next outcome after
+has_gone known after topo command outcome number move standing next stage is c raising due safe stage_is next_is =
+    let opening = known.opening in
+    let later = later_of known topo.host c.now is.actor c.later in
+    let state = state_since known topo c.now is later in
+    let now_is : Proposal = record { command = command; stage = advanced_stage (seen_state opening c.now topo.host) command; outcome = outcome } in
+    let added : proposals_of opening (propose_entry topo.host command outcome ∷ c.now) topo.host ≡ now_is ∷ proposals_of opening c.now topo.host = rw (same_host-refl topo.host, raising) refl in
+    let then_is : Proposal = record { command = command; stage = advanced_stage topo.state command; outcome = outcome } in
+    let same : now_is ≡ then_is = ap (λ (s : Topology). record { command = command; stage = advanced_stage s command; outcome = outcome }) (sym state) in
+    record {
+      command = command;
+      stage = advanced_stage topo.state command;
+      whole =
+          ap (λ (k : Known). proposals_of k.opening k.seen topo.host) c.is
+          ∙ added
+          ∙ (λ i. same i ∷ ways_since opening topo.host known.seen c.now later i);
+      due = due;
+      comes = well_judged opening c.now topo.host command outcome c.next (subst (λ (s : Topology). IsSafe s command) state safe);
+      stands = next_is ∙ ap (λ (o : Option Stage). standing_by move standing command o outcome) stage_is;
+    }
 
 -- a fence that is due is not judged illegal
 pub fence_legal : (known after : Known) (topo : TopoView) (version : Version) (outcome : Appended Rule) (number : ℕ) → IsTopo known topo → version ≡ topo.state.version → nat_lt topo.state.fence.0 topo.state.version.0 ≡ true → HasCommitted known (propose_entry topo.host (SetFence version) outcome) number after → is_illegal outcome ≡ false
@@ -241,8 +254,8 @@ fence_legal known after topo version outcome number is version_is above c =
     let fine = fence_fine topo.state version version_is (ap (λ (v : Version). nat_lt topo.state.fence.0 v.0) version_is ∙ above) in
     never_illegal known.opening c.now topo.host (SetFence version) outcome c.next (subst (λ (s : Topology). rule s (SetFence version) ≡ None) state fine)
 
-pub can_fence : (plan : RunPlan) (desk : DeskView) (topo : TopoView) (notes : NotesView) (version : Version) → IsAtTopo plan desk topo notes → CanFence topo notes version → IsProposable desk topo (SetFence version)
-can_fence plan desk topo notes version at can =
+pub may_set_fence : (plan : RunPlan) (desk : DeskView) (topo : TopoView) (notes : NotesView) (version : Version) → IsAtTopo plan desk topo notes → CanFence topo notes version → IsProposable desk topo (SetFence version)
+may_set_fence plan desk topo notes version at can =
     subst (λ (v : Version). IsProposable desk topo (SetFence v)) (sym can.is)
     (fence_due plan desk topo notes at can.looked can.above (can.drained ∙ ap Some can.is))
 
@@ -263,23 +276,20 @@ first_raises (Create table log2 replicas) = refl
 proposes_one : (a b : Command) → Propose a ≡ Propose b → a ≡ b
 proposes_one a b e = cc e
 
-pub next_first : (move : MoveAsk) (topo : TopoView) (next : Next) → next ≡ Propose (first_command move.act) → IsNextAct move Before topo next
-next_first move topo next is =
-    λ command e.
-    let same : first_command move.act ≡ command = proposes_one (first_command move.act) command (sym is ∙ e) in
-    (ap Some same, ap raises (sym same) ∙ first_raises move.act)
+-- a command that is next is due, and no fence
+pub record IsDue (move : MoveAsk) (standing : Standing) (state : Topology) (command : Command) : Type 0 where
+  pub due : due_command move standing (advanced_stage state command) ≡ Some command
+  pub raising : raises command ≡ true
 
-pub next_barrier : (move : MoveAsk) (stand : Standing) (topo : TopoView) (next : Next) (host : HostId) → next ≡ Barrier host → IsNextAct move stand topo next
-next_barrier move stand topo next host is = λ command e. let wrong : Barrier host ≡ Propose command = sym is ∙ e in cc wrong
-
-pub next_nothing : (move : MoveAsk) (stand : Standing) (topo : TopoView) (next : Next) → next ≡ Nothing → IsNextAct move stand topo next
-next_nothing move stand topo next is = λ command e. let wrong : Nothing ≡ Propose command = sym is ∙ e in cc wrong
-
-pub next_going : (move : MoveAsk) (session : Session) (topo : TopoView) (next : Next) → next ≡ planned move session topo.state topo.facts → IsNextAct move (Going session) topo next
-next_going move session topo next is =
-    λ command e.
-    let p = planned_act_due move move.act session topo.state topo.facts command (sym is ∙ e) in
-    (p.due, p.raising)
+pub next_due : (move : MoveAsk) (standing : Standing) (state : Topology) (facts : List Told) (command : Command) → next_act move standing state facts ≡ Propose command → IsDue move standing state command
+next_due move Before state facts command is =
+    let first = awaited_none Barrier (awaited_barrier facts state) (Propose (first_command move.act)) command (λ h asks. cc) is in
+    let same : first_command move.act ≡ command = proposes_one (first_command move.act) command first.1 in
+    record { due = ap Some same; raising = ap raises (sym same) ∙ first_raises move.act }
+next_due move (Going session) state facts command is =
+    let p = planned_act_due move move.act session state facts command is in
+    record { due = p.due; raising = p.raising }
+next_due move (Over ending) state facts command is = cc is
 
 -- ---- a look
 
@@ -300,13 +310,14 @@ look_on plan desk after topo number notes at acted c =
       free = ap (λ (d : DeskView). d.held) c.is;
     }
 
-pub timed_on : (patience drain takes more : ℕ) (clock : Clock) → more ≡ takes + 1 → IsTimed patience drain takes clock → IsTimed patience drain more clock
-timed_on patience drain takes more clock is t =
+pub timed_on : (patience drain given takes more : ℕ) (clock : Clock) → more ≡ takes + 1 → IsTimed patience drain given takes clock → IsTimed patience drain given more clock
+timed_on patience drain given takes more clock is t =
     record {
       given_up = t.given_up;
       asked = (let a = t.asked in omega (arith, a, is));
       fenced = t.fenced;
       waited = (let a = t.waited in omega (arith, a, is));
+      inquired = (let a = t.inquired in omega (arith, a, is));
     }
 
 -- ---- a proposal as a whole

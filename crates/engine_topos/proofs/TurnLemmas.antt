@@ -29,23 +29,20 @@ use Rattle.topo_coord.specs.declared.data.TopoInput.TheVariants.{Ask as AskInput
 use Rattle.topo_ties.specs.TopoTies.{IsTopoPlay, heard_input, proposal_outcome, topo_input, topo_outputs, topo_view}
 use Rattle.topo_ties.proofs.TopoTies.{topos_play, topos_stay}
 use Rattle.plan_facts.specs.Moves.{Proposal, proposals_of, with_proposal}
-use Rattle.plan_facts.specs.declared.standing.Standing.{Standing}
 use Rattle.plan_facts.specs.Own.{last_begun, taken_count}
+use Rattle.plan_facts.proofs.OtherLemmas.{proposals_of-other}
 use Rattle.plan_facts.specs.Plan.{most_takes, moves_of}
 use Rattle.plan_facts.specs.Skips.{IsCaused, is_others}
 use Rattle.plan_facts.specs.Suits.{IsAbout, Suits}
-use Rattle.run_plan.specs.declared.plan.MoveAsk.{MoveAsk}
 use Rattle.run_plan.specs.declared.plan.RunPlan.{RunPlan}
 use Rattle.plan_facts.specs.declared.skips.SkipCause.TheVariants.{Wrong}
 use Rattle.engine_desk.specs.Chairs.{HasCommitted, HasTurned, IsLater, Known, MayCommit}
 use Rattle.engine_desk.specs.Desks.{DeskTurned, DeskView, IsDesk, IsDeskCommit, IsSameDesk, IsSeated, skip_of}
-use Rattle.engine_desk.specs.Topos.{IsUnderWay}
 use Rattle.engine_desk.specs.declared.chair.Refused.{Refused}
 use Rattle.engine_desk.proofs.DeskLemmas.{desk_committed, desk_turned}
 use Rattle.engine_desk.proofs.EnabledLemmas.{enabled_by}
 use Rattle.engine_desk.proofs.LaterLemmas.{since}
 use Rattle.engine_desk.proofs.SameLemmas.{same_committed, same_turned}
-use Rattle.engine_desk.proofs.ShareLemmas.{way_since}
 use Rattle.engine_players.specs.Coordinators.{IsTopo}
 use Rattle.engine_players.specs.Inputs.{kept_input}
 use Rattle.engine_players.proofs.StepLemmas.{actors_step}
@@ -128,11 +125,13 @@ event_takes desk after topo played event input (Err refused) p = ap (λ (d : Des
 
 -- ---- ways
 
+pub ways_since : (opening : Opening) (topo : HostId) (old now : History) → IsLater opening (ByTopo topo) old now → proposals_of opening now topo ≡ proposals_of opening old topo
+ways_since opening topo old now later =
+    since opening (ByTopo topo) (λ h. proposals_of opening h topo) (λ history entry legal other. proposals_of-other opening history entry topo other) old now later
+
 pub ways_turned : (old new : Known) (topo : HostId) → old.actor ≡ ByTopo topo → HasTurned old new → WaysStay old topo new
 ways_turned old new topo is t =
-    λ moves done move standing w.
-    subst (λ (k : Known). IsUnderWay moves k.opening topo k.seen done move standing) (sym t.is)
-    (way_since moves old.opening topo old.seen t.now done move standing (later_of old topo t.now is t.later) w)
+    ap (λ (k : Known). proposals_of k.opening k.seen topo) t.is ∙ ways_since old.opening topo old.seen t.now (later_of old topo t.now is t.later)
 
 no_proposal : (topo : HostId) (state : Topology) (event : Event) (outputs : List Output) (proposals : List Proposal) (opening : Opening) (history : History) (input : TopoInput) → kept_input opening history event ≡ Some input → IsPlain input → with_proposal topo state event outputs proposals ≡ proposals
 no_proposal topo state (Propose by command) outputs proposals opening history input is p = let same : ProposeInput command ≡ input = cc is in let wrong : IsPlain (ProposeInput command) = subst IsPlain (sym same) p in absurd wrong
@@ -143,19 +142,9 @@ ways_played desk after topo played event input (Ok number) is due p =
     let c = p.0.committed in
     let opening = desk.known.opening in
     let entry = topo_entry topo event input in
-    λ moves done move standing w.
-    let on = way_since moves opening topo.host desk.known.seen c.now done move standing (later_of desk.known topo.host c.now is.actor c.later) w in
-    subst (λ (k : Known). IsUnderWay moves k.opening topo.host k.seen done move standing) (sym c.is)
-    (record {
-      share = on.share;
-      older = on.older;
-      whole = on.whole ∙ sym (no_proposal topo.host (seen_state opening c.now topo.host) event entry.outputs (proposals_of opening c.now topo.host) opening desk.known.seen input due.input_is due.plain);
-      count = on.count;
-      there = on.there;
-      carried = on.carried;
-      before = on.before;
-      stands = on.stands;
-    })
+    ap (λ (k : Known). proposals_of k.opening k.seen topo.host) c.is
+    ∙ no_proposal topo.host (seen_state opening c.now topo.host) event entry.outputs (proposals_of opening c.now topo.host) opening desk.known.seen input due.input_is due.plain
+    ∙ ways_since opening topo.host desk.known.seen c.now (later_of desk.known topo.host c.now is.actor c.later)
 ways_played desk after topo played event input (Err refused) is due p = ways_turned desk.known after.known topo.host is.actor p.turned
 
 -- ---- what an event leaves
@@ -217,10 +206,10 @@ at_skipped plan desk after topo notes is free d t n =
     }
 
 pub ways_same : (old new : Known) (topo : HostId) → new ≡ old → WaysStay old topo new
-ways_same old new topo is = λ moves done move standing w. subst (λ (k : Known). IsUnderWay moves k.opening topo k.seen done move standing) (sym is) w
+ways_same old new topo is = ap (λ (k : Known). proposals_of k.opening k.seen topo) is
 
 pub ways_on : (a b c : Known) (topo : HostId) → WaysStay a topo b → WaysStay b topo c → WaysStay a topo c
-ways_on a b c topo f s = λ moves done move standing w. s moves done move standing (f moves done move standing w)
+ways_on a b c topo first second = second ∙ first
 
 -- a turn leaves the coordinator
 pub topo_turned : (old new : Known) (topo : TopoView) → HasTurned old new → IsTopo old topo → IsTopo new topo
@@ -253,6 +242,3 @@ ask_suits plan desk topo notes host what asked moves is n about counted many few
 pub event_same : (desk after : DeskView) (topo played : TopoView) (event : Event) (input : TopoInput) (result : Result ℕ Refused) → IsTopoPlayed desk topo event input result after played → IsSameDesk desk after
 event_same desk after topo played event input (Ok number) p = same_committed desk after (topo_entry topo event input) number p.0
 event_same desk after topo played event input (Err refused) p = same_turned desk after p
-
-pub go_after : (a b c : Known) (topo : HostId) (moves : List MoveAsk) (done : ℕ) (move : MoveAsk) (before after : Standing) → WaysStay a topo b → (IsUnderWay moves b.opening topo b.seen done move before → IsUnderWay moves c.opening topo c.seen done move after) → IsUnderWay moves a.opening topo a.seen done move before → IsUnderWay moves c.opening topo c.seen done move after
-go_after a b c topo moves done move before after f g w = g (f moves done move before w)

@@ -1,4 +1,7 @@
 pub mod Notes
 pub mod Turns
-pub mod Acts
 pub mod Clocks
+pub mod Acts
+pub mod Deeds
+pub mod Courses
+pub mod Looks

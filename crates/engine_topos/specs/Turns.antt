@@ -1,5 +1,6 @@
 -- A coordinator's turn.
-use Rattle.std.specs.Prelude.{Err, List, None, Ok, Result, Some, [], true, ℕ, ◌∷◌, ◌≡◌}
+use Rattle.std.specs.Prelude.{Err, List, None, Ok, Option, Result, Some, [], length, true, ℕ, ◌<◌, ◌∷◌, ◌≡◌, ◌≤◌}
+use Rattle.barrier_core.specs.declared.data.What.{What}
 use Rattle.base_ids.specs.declared.ids.Actor.TheVariants.{Topo as ByTopo}
 use Rattle.base_ids.specs.declared.ids.HostId.{HostId}
 use Rattle.cluster_history.specs.History.{actor_of}
@@ -17,22 +18,29 @@ use Rattle.topo_coord.specs.declared.data.TopoInput.{TopoInput}
 use Rattle.topo_coord.specs.declared.data.TopoInput.TheVariants.{Propose as ProposeInput}
 use Rattle.topo_coord.specs.declared.data.TopoOut.{TopoOut}
 use Rattle.topo_coord.specs.declared.data.TopoOut.TheVariants.{Ask as AskOut}
-use Rattle.plan_facts.specs.declared.standing.Standing.{Standing}
+use Rattle.plan_facts.specs.Moves.{proposals_of}
+use Rattle.plan_facts.specs.Posts.{sent_by}
 use Rattle.plan_facts.specs.Own.{taken_ref}
-use Rattle.run_plan.specs.declared.plan.MoveAsk.{MoveAsk}
 use Rattle.run_plan.specs.declared.plan.RunPlan.{RunPlan}
 use Rattle.engine_desk.specs.Chairs.{Holds, Known}
-use Rattle.engine_desk.specs.Desks.{DeskCommitted, DeskTurned, DeskView, IsDesk}
-use Rattle.engine_desk.specs.Topos.{IsUnderWay}
+use Rattle.engine_desk.specs.Desks.{DeskCommitted, DeskTurned, DeskView, HasSent, IsDesk}
 use Rattle.engine_desk.specs.declared.chair.Refused.{Refused}
 use Rattle.engine_players.specs.Coordinators.{IsTopo}
 use Rattle.engine_players.specs.Inputs.{kept_input}
-use Rattle.engine_topos.specs.Notes.{IsNoted, NotesView}
+use Rattle.engine_topos.specs.Notes.{IsNoted, NotesView, ask_noted, asked_in}
+use Rattle.engine_topos.specs.declared.notes.Asked.{Asked}
 
 -- what is given out that is no proposal
 abbrev pub plain_outputs : TopoOut → List Output
 plain_outputs (AskOut ask) = Sent (AskSent ask) ∷ []
 plain_outputs out = []
+
+abbrev pub ask_of : HostId → What → Asked
+ask_of host what = record { to = host; what = what }
+
+-- what an ask sends
+abbrev pub ask_outputs : HostId → Asked → List Output
+ask_outputs topo asked = Sent (AskSent (record { by = topo; to = asked.to; what = asked.what })) ∷ []
 
 abbrev pub IsPlain : TopoInput → Type 0
 IsPlain (ProposeInput command) = ⊥
@@ -64,12 +72,24 @@ pub record IsAtTopo (plan : RunPlan) (desk : DeskView) (topo : TopoView) (notes 
   pub noted : IsNoted desk.known.seen topo.host notes
   pub free : desk.held ≡ None
 
--- whichever move was under way stands as it did
+-- the coordinator has proposed nothing meanwhile but fences
 abbrev pub WaysStay : Known → HostId → Known → Type 0
-WaysStay old topo new =
-    (moves : List MoveAsk) (done : ℕ) (move : MoveAsk) (standing : Standing)
-    → IsUnderWay moves old.opening topo old.seen done move standing
-    → IsUnderWay moves new.opening topo new.seen done move standing
+WaysStay old topo new = proposals_of new.opening new.seen topo ≡ proposals_of old.opening old.seen topo
+
+-- the coordinator has sent nothing meanwhile
+pub record SentStays (old : Known) (topo : HostId) (new : Known) : Type 0 where
+  pub sent : sent_by (ByTopo topo) new.seen ≡ sent_by (ByTopo topo) old.seen
+  pub longer : length old.seen ≤ length new.seen
+
+-- The ask has its entry, of this number, and is noted. None comes exactly where the host was asked this as often as it
+-- may be, and nothing has changed then.
+abbrev pub AskComes : ℕ → DeskView → HostId → NotesView → Asked → Option ℕ → DeskView → NotesView → Type 0
+AskComes most desk topo notes asked None after noted =
+    (most ≤ asked_in asked.to asked.what notes.asks) × (after ≡ desk) × (noted ≡ notes)
+AskComes most desk topo notes asked (Some number) after noted =
+    (asked_in asked.to asked.what notes.asks < most)
+    × (noted ≡ ask_noted asked.to asked.what notes)
+    × HasSent desk.known number (ask_outputs topo asked) after.known
 
 -- hearing the message, which is for this coordinator, gives it this
 pub record IsHeard (topo : HostId) (message : Message) (input : TopoInput) : Type 0 where

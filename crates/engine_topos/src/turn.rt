@@ -1,5 +1,5 @@
 //! A coordinator hears and asks.
-ghost use Rattle.std.specs.Prelude.{◌≡◌, ◌+◌, ◌*◌, ◌<◌, ◌≤◌, ◌^◌, IfOk, MatchOption, None, OnOk, Some, length, true};
+ghost use Rattle.std.specs.Prelude.{◌≡◌, ◌+◌, ◌*◌, ◌<◌, ◌≤◌, ◌^◌, IfOk, MatchOption, None, OnErr, OnOk, Some, length, true};
 ghost use Rattle.base_ids.specs.Names.{same_host};
 ghost use Rattle.cluster_history.specs.History.{message_at};
 ghost use Rattle.topo_coord.specs.Topo.{topo_after, topo_out, topo_rule};
@@ -9,7 +9,7 @@ ghost use Rattle.plan_facts.specs.Suits.{IsAbout, Suits};
 ghost use Rattle.engine_desk.specs.Desks.{IsDesk, IsSameDesk};
 ghost use Rattle.engine_players.specs.Coordinators.{IsTopo};
 ghost use Rattle.engine_topos.specs.Notes.{IsNoted};
-ghost use Rattle.engine_topos.specs.Turns.{IsAtTopo, IsHeard, IsTopoDue, IsTopoPlayed, WaysStay, plain_outputs, topo_entry};
+ghost use Rattle.engine_topos.specs.Turns.{AskComes, IsAtTopo, IsHeard, IsTopoDue, IsTopoPlayed, SentStays, WaysStay, ask_of, plain_outputs, topo_entry};
 
 use crate::notes::Notes;
 use barrier_core::{Fact, What};
@@ -130,6 +130,7 @@ fn hear<C: Chair, M: Mail, R: Wait>(
     ensures at_topo { OnOk result (IsAtTopo plan.now desk.new core.new.core notes.now) }
     ensures named { OnOk result (topo ≡ core.new.core.host) }
     ensures ways { WaysStay desk.old.known topo desk.new.known }
+    ensures sent { SentStays desk.old.known topo desk.new.known }
     ensures same { IsSameDesk desk.old desk.new }
     ensures takes { desk.new.takes ≡ desk.old.takes }
 {
@@ -162,6 +163,7 @@ pub fn topo_take<C: Chair, M: Mail, R: Wait>(
     ensures at_topo { OnOk result (IsAtTopo plan.now desk.new core.new.core notes.now) }
     ensures named { OnOk result (topo ≡ core.new.core.host) }
     ensures ways { WaysStay desk.old.known topo desk.new.known }
+    ensures sent { SentStays desk.old.known topo desk.new.known }
     ensures same { IsSameDesk desk.old desk.new }
     ensures takes { OnOk result (desk.new.takes ≡ desk.old.takes + 1) }
 {
@@ -171,7 +173,8 @@ pub fn topo_take<C: Chair, M: Mail, R: Wait>(
     hear(rt, alloc, plan, desk, core, notes, topo, at, message)
 }
 
-/// A coordinator asks a host, as long as it has not asked it this too often; `false` tells that it has.
+/// A coordinator asks a host, as long as it has not asked it this too often. Gives the number of the entry, and `None`
+/// exactly where it has.
 pub fn topo_ask<C: Chair, M: Mail, R: Wait>(
     rt: &R,
     alloc: Global,
@@ -183,23 +186,26 @@ pub fn topo_ask<C: Chair, M: Mail, R: Wait>(
     topo: HostId,
     to: HostId,
     what: What,
-) -> Result<bool, Refused>
+) -> Result<Option<u64>, Refused>
     requires named { topo ≡ core.old.core.host }
     requires at_topo { IsAtTopo plan.now desk.old core.old.core notes.old }
     requires moves { moves ≡ length (moves_of plan.now topo) }
     requires few { plan.now.patience * moves < 2 ^ 64 }
     requires there { to.0 < desk.old.known.opening.hosts }
     requires about { IsAbout core.old.core.state notes.old.begun what }
+    ensures comes { let asked = ask_of to what in let most = plan.now.patience * moves in
+        IfOk result (λ number. AskComes most desk.old topo notes.old asked number desk.new notes.new) }
     ensures desk { IsDesk plan.now desk.new }
     ensures at_topo { OnOk result (IsAtTopo plan.now desk.new core.new.core notes.new) }
     ensures named { OnOk result (topo ≡ core.new.core.host) }
     ensures ways { WaysStay desk.old.known topo desk.new.known }
+    ensures unsent { OnErr result (SentStays desk.old.known topo desk.new.known) }
     ensures same { IsSameDesk desk.old desk.new }
     ensures takes { desk.new.takes ≡ desk.old.takes }
 {
     let asked = notes.asked(to, what) as u64;
     if asked >= plan.patience as u64 * moves {
-        return Ok(false);
+        return Ok(None);
     }
     notes.note_ask(to, what)?;
     let event = Event::Ask {
@@ -207,7 +213,7 @@ pub fn topo_ask<C: Chair, M: Mail, R: Wait>(
         host: to,
         what,
     };
-    topo_event(
+    let number = topo_event(
         rt,
         alloc,
         plan,
@@ -216,5 +222,5 @@ pub fn topo_ask<C: Chair, M: Mail, R: Wait>(
         event,
         TopoInput::Ask { to, what },
     )?;
-    Ok(true)
+    Ok(Some(number))
 }

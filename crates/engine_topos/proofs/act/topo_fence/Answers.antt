@@ -1,15 +1,16 @@
-use Rattle.std.proofs.Common.{ap, subst, sym, ◌∙◌}
+use Rattle.std.proofs.Common.{Ok, ap, subst, sym, ◌∙◌}
 use Rattle.base_ids.specs.declared.ids.Actor.TheVariants.{Topo as ByTopo}
 use Rattle.base_ids.specs.declared.ids.HostId.{HostId}
 use Rattle.topo_state.specs.declared.command.Command.TheVariants.{SetFence}
 use Rattle.engine_desk.specs.Desks.{DeskProposed}
-use Rattle.engine_topos.proofs.ActLemmas.{at_proposed, can_fence, fence_legal, ways_fenced}
+use Rattle.engine_topos.proofs.ActLemmas.{at_proposed, may_set_fence, fence_legal, ways_fenced}
+use Rattle.engine_topos.proofs.SentLemmas.{sent_proposed, sent_turned}
 use Rattle.engine_topos.proofs.TurnLemmas.{ways_turned}
 use Rattle.engine_topos.proofs.act.topo_fence.Goals as goal
 
 pub topo_propose-requires-clause-due : goal.topo_propose-requires-clause-due
 topo_propose-requires-clause-due g c =
-    can_fence c.args.plan.now c.args.desk.now c.args.core.now.core c.args.notes.now c.in-Some.version c.requires.at_topo c.in-Some.ensures
+    may_set_fence c.args.plan.now c.args.desk.now c.args.core.now.core c.args.notes.now c.in-Some.version c.requires.at_topo c.in-Some.ensures
 
 pub returns-in_err-outcome-clause-ways : goal.returns-in_err-outcome-clause-ways
 returns-in_err-outcome-clause-ways g c =
@@ -46,3 +47,11 @@ returns-in_err-outcome-clause-desk g c = c.topo_propose.ensures.desk c.args.plan
 
 pub returns-clause-desk : goal.returns-clause-desk
 returns-clause-desk g c = c.topo_propose.ensures.desk c.args.plan.now c.requires.at_topo.kept
+
+pub returns-in_err-outcome-clause-sent : goal.returns-in_err-outcome-clause-sent
+returns-in_err-outcome-clause-sent g c =
+    sent_turned c.args.desk.now.known c.topo_propose.new.desk.known c.args.topo (c.requires.at_topo.topo_is.actor ∙ ap ByTopo (sym c.requires.named)) c.in_err-outcome.ensures.proposed.turned
+
+pub returns-clause-sent : goal.returns-clause-sent
+returns-clause-sent g c =
+    sent_proposed c.args.desk.now c.topo_propose.new.desk c.args.topo (SetFence c.in-Some.version) (Ok c.in_ok-outcome.outcome) (c.requires.at_topo.topo_is.actor ∙ ap ByTopo (sym c.requires.named)) c.in_ok-outcome.ensures.proposed

@@ -12,8 +12,9 @@ use Rattle.engine_desk.proofs.DeskLemmas.{skipped_kept}
 use Rattle.engine_desk.proofs.SameLemmas.{same_skipped}
 use Rattle.engine_desk.proofs.TurnLemmas.{repeat_caused}
 use Rattle.engine_topos.specs.Notes.{IsNoted}
-use Rattle.engine_topos.specs.Turns.{IsTopoDue, IsTopoPlayed, WaysStay, plain_outputs}
+use Rattle.engine_topos.specs.Turns.{IsTopoDue, IsTopoPlayed, SentStays, WaysStay, plain_outputs}
 use Rattle.engine_topos.proofs.NoteLemmas.{noted_hear}
+use Rattle.engine_topos.proofs.SentLemmas.{sent_heard}
 use Rattle.engine_topos.proofs.TurnLemmas.{at_played, at_skipped, hear_due, hear_suits, ways_played, wrong_topo}
 use Rattle.engine_topos.proofs.turn.hear.Goals as goal
 
@@ -111,3 +112,21 @@ returns-in_default-clause-same g c = same_skipped c.args.desk.now c.skip.new.sel
 
 pub returns-then-taken-most_takes-clause-same : goal.returns-then-taken-most_takes-clause-same
 returns-then-taken-most_takes-clause-same g c = same_skipped c.args.desk.now c.skip-then-taken-most_takes.new.self Repeat c.args.at (c.skip-then-taken-most_takes.ensures c.args.at c.requires.held)
+
+pub returns-in_err-topo_event-clause-sent : goal.returns-in_err-topo_event-clause-sent
+returns-in_err-topo_event-clause-sent g c =
+    let desk = c.args.desk.now in
+    let topo = c.args.core.now.core in
+    let input = c.in-Some.input in
+    subst (λ (h : HostId). SentStays desk.known h c.topo_event.new.desk.known) (sym c.requires.named)
+    (sent_heard desk c.topo_event.new.desk topo c.topo_event.new.core.core c.args.at c.args.message input c.topo_event.result c.requires.topo_is c.in-Some.ensures.gives
+    (subst (λ (h : HostId). IsTopoPlayed desk topo (Hear h c.args.at) input c.topo_event.result c.topo_event.new.desk c.topo_event.new.core.core) c.requires.named c.topo_event.ensures.played))
+
+pub returns-clause-sent : goal.returns-clause-sent
+returns-clause-sent g c =
+    let desk = c.args.desk.now in
+    let topo = c.args.core.now.core in
+    let input = c.in-Some.input in
+    subst (λ (h : HostId). SentStays desk.known h c.topo_event.new.desk.known) (sym c.requires.named)
+    (sent_heard desk c.topo_event.new.desk topo c.topo_event.new.core.core c.args.at c.args.message input c.topo_event.result c.requires.topo_is c.in-Some.ensures.gives
+    (subst (λ (h : HostId). IsTopoPlayed desk topo (Hear h c.args.at) input c.topo_event.result c.topo_event.new.desk c.topo_event.new.core.core) c.requires.named c.topo_event.ensures.played))

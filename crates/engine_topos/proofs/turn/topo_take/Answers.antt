@@ -3,6 +3,7 @@ use Rattle.engine_desk.proofs.SameLemmas.{same_fetched, same_twice}
 use Rattle.base_ids.specs.declared.ids.Actor.TheVariants.{Topo as ByTopo}
 use Rattle.engine_desk.proofs.DeskLemmas.{fetched_kept, fetched_turned}
 use Rattle.engine_topos.specs.Notes.{IsNoted}
+use Rattle.engine_topos.proofs.SentLemmas.{sent_on, sent_turned}
 use Rattle.engine_topos.proofs.TurnLemmas.{noted_turned, topo_turned, ways_on, ways_turned}
 use Rattle.engine_topos.proofs.turn.topo_take.Goals as goal
 
@@ -42,3 +43,15 @@ returns-in_err-at-clause-same g c = same_fetched c.args.desk.now c.next.new.self
 pub returns-clause-same : goal.returns-clause-same
 returns-clause-same g c =
     same_twice c.args.desk.now c.next.new.self c.hear.new.desk (same_fetched c.args.desk.now c.next.new.self c.next.result c.next.ensures) c.hear.ensures.same
+
+pub returns-in_err-at-clause-sent : goal.returns-in_err-at-clause-sent
+returns-in_err-at-clause-sent g c =
+    sent_turned c.args.desk.now.known c.next.new.self.known c.args.topo (c.requires.at_topo.topo_is.actor ∙ ap ByTopo (sym c.requires.named))
+    (fetched_turned c.args.desk.now c.next.new.self c.next.result c.requires.at_topo.kept.seated.run c.next.ensures)
+
+pub returns-clause-sent : goal.returns-clause-sent
+returns-clause-sent g c =
+    sent_on c.args.desk.now.known c.next.new.self.known c.hear.new.desk.known c.args.topo
+    (sent_turned c.args.desk.now.known c.next.new.self.known c.args.topo (c.requires.at_topo.topo_is.actor ∙ ap ByTopo (sym c.requires.named))
+    (fetched_turned c.args.desk.now c.next.new.self c.next.result c.requires.at_topo.kept.seated.run c.next.ensures))
+    c.hear.ensures.sent

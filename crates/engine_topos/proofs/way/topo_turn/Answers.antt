@@ -1,20 +1,21 @@
-use Rattle.std.proofs.Common.{sym, ap, ◌∙◌}
-use Rattle.cluster_history.specs.declared.data.Opening.{Opening}
-use Rattle.engine_topos.proofs.ActLemmas.{timed_on}
+use Rattle.std.proofs.Common.{Option, ap, option_copied, slice_get, subst, sym, ◌∙◌}
+use Rattle.plan_facts.specs.Plan.{moves_of}
+use Rattle.engine_topos.specs.Courses.{Leaves}
+use Rattle.engine_topos.specs.declared.deed.MoveEnd.{MoveEnd}
+use Rattle.std.specs.Prelude.{Some}
+use Rattle.engine_topos.proofs.CourseLemmas.{course_left, course_stays}
+use Rattle.engine_topos.proofs.TurnLemmas.{ways_on}
 use Rattle.engine_topos.proofs.way.topo_turn.Goals as goal
 
-pub returns-in_err-topo_take-clause-goes : goal.returns-in_err-topo_take-clause-goes
-returns-in_err-topo_take-clause-goes g c = λ moves done w. c.topo_take.ensures.ways moves done c.args.ask.now c.args.way.now.standing w
-
-pub topo_move-requires-clause-hosts : goal.topo_move-requires-clause-hosts
-topo_move-requires-clause-hosts g c = c.requires.hosts ∙ ap (λ (o : Opening). o.hosts) (sym c.topo_take.ensures.same.opening)
-
-pub topo_move-requires-clause-taken : goal.topo_move-requires-clause-taken
-topo_move-requires-clause-taken g c = c.requires.taken ∙ sym c.in_ok-topo_take.ensures.takes
-
-pub topo_move-requires-clause-timed : goal.topo_move-requires-clause-timed
-topo_move-requires-clause-timed g c = timed_on c.args.plan.now.patience c.args.plan.now.drain c.args.desk.now.takes c.args.takes c.args.way.now.clock c.requires.taken c.requires.timed
-
-pub returns-clause-goes : goal.returns-clause-goes
-returns-clause-goes g c = λ moves done w.
-    c.topo_move.ensures.goes moves done (c.topo_take.ensures.ways moves done c.args.ask.now c.args.way.now.standing w)
+pub returns-in-Some-2-clause-course : goal.returns-in-Some-2-clause-course
+returns-in-Some-2-clause-course g c =
+    let plan = c.args.plan.now in
+    let topo = c.args.topo in
+    let course = c.args.course.now in
+    let state = c.topo_look.new.core.core.state in
+    let known = c.topo_look.new.desk.known in
+    let stays = ways_on c.args.desk.now.known c.topo_take.new.desk.known known topo c.topo_take.ensures.ways c.topo_look.ensures.ways in
+    course_left plan known topo state c.in-Some.ask.now course c.topo_leave.new.course (Some c.in-Some-2.end)
+    (ap (slice_get (moves_of plan topo)) (sym c.done.ensures) ∙ sym c.move_at.ensures ∙ ap option_copied c.in-Some.is)
+    (subst (λ (e : Option MoveEnd). Leaves state course e c.topo_leave.new.course) c.in-Some-2.is c.in_ok-end.ensures.leaves)
+    (course_stays (moves_of plan topo) c.args.desk.now.known known topo course.ends course.way.standing stays c.requires.course)
