@@ -8,10 +8,9 @@ ghost use Rattle.work_mail.specs.declared.rule.MailLog.TheVariants.{First};
 
 use crate::list::PassList;
 use crate::pass::{Pass, QueuePass};
-use crate::queue::{Queue, gather, hand_out, pop, push};
-use crate::rule::{Ends, MailLog, Merge};
+use crate::queue::{Queue, gather, hand_out, new_queue, pop, push};
+use crate::rule::Ends;
 use base_ids::{MsgRef, NoMemory};
-use crossbeam_queue::RuledArrayQueue;
 use std::alloc::Global;
 use std::marker::Model;
 use std::sync::Wait;
@@ -50,7 +49,7 @@ impl Mailbox {
         ensures room { IfOk result (λ made. passes - 1 ≤ made.1.room) }
     {
         let mut others: Vec<Pass> = Vec::with_capacity(alloc, (passes - 1) as usize)?;
-        let (queue, mut first) = RuledArrayQueue::<MsgRef, MailLog, Merge>::ruled(alloc, capacity)?;
+        let (queue, mut first) = new_queue(alloc, capacity)?;
         add_passes(&queue, &mut first, &mut others, passes - 1)?;
         let first = Pass::new(first, true);
         Ok((

@@ -1,5 +1,5 @@
 //! The steps on the queue that a mailbox is.
-ghost use Rattle.std.specs.Prelude.{◌≡◌, ◌<◌, ◌∷◌, [], List, MatchOption, false, length, true, ℕ};
+ghost use Rattle.std.specs.Prelude.{◌≡◌, ◌<◌, ◌∷◌, [], List, IfOk, MatchOption, false, length, true, ℕ};
 ghost use Rattle.base_ids.specs.declared.ids.MsgRef.{MsgRef};
 ghost use Rattle.crossbeam_queue.specs.Passes.{IsPassOf, ruled_capacity, view};
 ghost use Rattle.work_mail.specs.Merges.{IsFirst, IsOut, IsSeen, handed, handing, taking_in, with_put, with_taken};
@@ -9,12 +9,22 @@ ghost use Rattle.work_mail.specs.declared.rule.MailLog.TheVariants.{First};
 
 use crate::pass::{Pass, QueuePass};
 use crate::rule::{Hand, MailLog, Merge, Puts, Takes};
-use base_ids::MsgRef;
+use base_ids::{MsgRef, NoMemory};
 use crossbeam_queue::RuledArrayQueue;
+use std::alloc::Global;
 use std::sync::Wait;
 
 /// The queue that a mailbox is.
 pub(crate) type Queue = RuledArrayQueue<MsgRef, MailLog, Merge>;
+
+/// A queue for so many references at a time, and its first pass.
+pub(crate) fn new_queue(alloc: Global, capacity: usize) -> Result<(Queue, QueuePass), NoMemory>
+    requires { 0 < capacity }
+    ensures capacity { IfOk result (λ made. ruled_capacity made.0 ≡ capacity) }
+    ensures first { IfOk result (λ made. IsPassOf made.0 made.1 × (view made.1 ≡ First [] [] 1 [])) }
+{
+    Ok(RuledArrayQueue::<MsgRef, MailLog, Merge>::ruled(alloc, capacity)?)
+}
 
 /// Puts a reference behind the others. Whether there was room for it.
 pub(crate) fn push<R: Wait>(
